@@ -25,7 +25,15 @@ impl Model for MemSink {
 
     ghost Value = { SinkState };
 
-    ghost view = { λ s. record { bytes = s.stream.bytes; room = s.stream.room; step = s.step; failing = s.failing.items; calls = s.calls; faults = s.faults; stalls = s.stream.stalls } };
+    ghost view = { λ s. record {
+      bytes = s.stream.bytes;
+      room = s.stream.room;
+      step = s.step;
+      failing = s.failing.items;
+      calls = s.calls;
+      faults = s.faults;
+      stalls = s.stream.stalls;
+    } };
 
     ghost invariant = { λ s. 1 ≤ s.step };
 }
@@ -35,7 +43,15 @@ impl MemSink {
     /// writes with a number in `failing` fail.
     pub fn new(alloc: Global, room: u64, step: u64, failing: Vec<u64>) -> Result<MemSink, NoMemory>
         requires { 1 ≤ step }
-        ensures { IfOk result (λ s. s ≡ record { bytes = []; room = room; step = step; failing = failing.items; calls = 0; faults = 0; stalls = 0 }) }
+        ensures { IfOk result (λ s. s ≡ record {
+          bytes = [];
+          room = room;
+          step = step;
+          failing = failing.items;
+          calls = 0;
+          faults = 0;
+          stalls = 0;
+        }) }
     {
         Ok(MemSink {
             stream: QuietSink::new(alloc, room)?,
