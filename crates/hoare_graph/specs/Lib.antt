@@ -1,0 +1,5 @@
+pub mod Parts
+pub mod WellFormed
+pub mod Text
+pub mod FirstPath
+pub mod Lookup

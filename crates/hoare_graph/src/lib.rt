@@ -1,0 +1,9 @@
+//! Hoare graphs: predicates as vertices, instructions as edges, and what a checker says of them.
+//! It reads the text of a small graph exactly; it never looks into the executable.
+#![tactic(auto)]
+
+mod graph;
+mod verdict;
+
+pub use graph::{Function, Graph, Kind, Policy, Pred, Site, Term, Vertex};
+pub use verdict::{Broken, Rule, Verdict};
