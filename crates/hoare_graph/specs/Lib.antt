@@ -3,3 +3,4 @@ pub mod WellFormed
 pub mod Text
 pub mod FirstPath
 pub mod Lookup
+pub mod Reading

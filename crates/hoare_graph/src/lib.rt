@@ -3,7 +3,10 @@
 #![tactic(auto)]
 
 mod graph;
+mod refusal;
 mod verdict;
+mod writing;
 
 pub use graph::{Function, Graph, Kind, Policy, Pred, Site, Term, Vertex};
+pub use refusal::{GraphRefusal, NoMemory};
 pub use verdict::{Broken, Rule, Verdict};
