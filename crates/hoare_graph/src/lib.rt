@@ -3,8 +3,10 @@
 #![tactic(auto)]
 
 mod graph;
+mod lines;
 mod refusal;
 mod verdict;
+mod words;
 mod writing;
 
 pub use graph::{Function, Graph, Kind, Policy, Pred, Site, Term, Vertex};

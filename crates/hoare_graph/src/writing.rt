@@ -3,6 +3,7 @@ ghost use Rattle.std.specs.Prelude.{◌≡◌, ℕ, ◌≤◌, ◌++◌, ◌∷�
 ghost use Rattle.std.specs.Fmt.{decimal};
 ghost use Rattle.std.specs.List.{flat_map, enumerate_from};
 ghost use Rattle.hoare_graph.specs.Text.{hex, number_text, term_text, value_text, register_name as name_of_register, is_entry as has_entry, register_text, registers_line, cell_line, edge_text, edges_line, kind_text, vertex_text, site_text, function_text, graph_text};
+ghost use Rattle.hoare_graph.specs.Parts.{Each};
 ghost use Rattle.hoare_graph.specs.WellFormed.{IsSite, IsFunction, IsWellFormed};
 
 use crate::graph::{Function, Graph, Kind, Site, Term, Vertex};
@@ -224,15 +225,14 @@ fn put_function(alloc: Global, out: &mut Vec<u8>, function: &Function) -> Result
     Ok(())
 }
 
-fn put_graph(alloc: Global, out: &mut Vec<u8>, g: &Graph) -> Result<(), AllocError>
-    requires { IsWellFormed g.now }
-    ensures { OnOk result (out.new.items ≡ out.old.items ++ graph_text g.now) }
+fn put_functions(alloc: Global, out: &mut Vec<u8>, functions: &[Function]) -> Result<(), AllocError>
+    requires { Each IsFunction functions.now }
+    ensures { OnOk result (out.new.items ≡ out.old.items ++ flat_map function_text functions.now) }
 {
-    out.extend_from_slice(b"foxdec graph 1\n")?;
-    for function in g.functions.as_slice() {
+    for function in functions {
         put_function(alloc, out, function)?;
     }
-    out.extend_from_slice(b"end\n")
+    Ok(())
 }
 
 /// The one text of a well formed graph; `NoMemory` where memory runs out.
@@ -241,6 +241,8 @@ pub fn write_graph(alloc: Global, g: &Graph) -> Result<Vec<u8>, NoMemory>
     ensures { IfOk result (λ text. text.items ≡ graph_text g.now) }
 {
     let mut out = Vec::new(alloc);
-    put_graph(alloc, &mut out, g)?;
+    out.extend_from_slice(b"foxdec graph 1\n")?;
+    put_functions(alloc, &mut out, g.functions.as_slice())?;
+    out.extend_from_slice(b"end\n")?;
     Ok(out)
 }
