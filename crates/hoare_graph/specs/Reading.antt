@@ -172,6 +172,11 @@ edge_at bytes = do
   rest ← strip (codes "\n") (behind_word b)
   Some ((addr, vertex), rest)
 
+-- one edge where there is one
+abbrev pub FitsOneEdge : Kind → List (ℕ × ℕ) → Type 0
+FitsOneEdge Step out = length out ≡ 1
+FitsOneEdge Return out = out ≡ []
+
 unfoldable pub edges_at : Kind → List ℕ → Option (List (ℕ × ℕ) × List ℕ)
 edges_at Step bytes = edge_at bytes >>= λ x. Some (x.0 ∷ [], x.1)
 edges_at Return bytes = Some ([], bytes)
@@ -206,3 +211,7 @@ head_at bytes = do
   entry ← hex_of (word_at a)
   rest ← strip (codes " 65536 4096\n") (behind_word a)
   Some (entry, rest)
+
+-- the lines before the first site
+abbrev pub head_text : ℕ → List ℕ
+head_text entry = codes "foxdec graph 1\nf " ++ hex entry ++ codes " 65536 4096\n"
