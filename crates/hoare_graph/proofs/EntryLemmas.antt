@@ -1,8 +1,9 @@
 -- The entries of the line of registers, one after the other.
-use Rattle.std.proofs.Common.{◌≡◌, ℕ, suc, ◌+◌, ◌-◌, ◌<◌, ◌≤◌, List, [], ◌∷◌, ◌++◌, length, Option, Some, None, Result, Ok, Err, refl, sym, ap, ◌∙◌, append_assoc, arith}
+use Rattle.std.proofs.Common.{◌≡◌, ℕ, suc, ◌+◌, ◌-◌, ◌<◌, ◌≤◌, List, [], ◌∷◌, ◌++◌, length, Option, Some, None, Result, Ok, Err, refl, sym, ap, ◌∙◌, append_assoc, length-append, arith}
 use Rattle.std.specs.List.{flat_map, enumerate_from}
 use Rattle.std.proofs.lemmas.List.{append-nil}
 use Rattle.hoare_graph.specs.declared.graph.Term.{Term}
+use Rattle.hoare_graph.specs.Text.{register_text}
 use Rattle.hoare_graph.specs.Reading.{◌>>=◌, register_at, entries_at}
 
 -- what was read before, and what is still read
@@ -42,3 +43,15 @@ placed_more text n [] x = let e : n + 0 ≡ n = omega arith in rw e (append-nil 
 placed_more text n (y ∷ ys) x =
     let e : n + 1 + length ys ≡ n + length (y ∷ ys) = omega arith in
     ap (λ t. text (n, y) ++ t) (placed_more text (n + 1) ys x ∙ ap (λ k. flat_map text (enumerate_from (n + 1) ys) ++ text (k, x)) e) ∙ sym (append_assoc (text (n, y)) (flat_map text (enumerate_from (n + 1) ys)) (text (n + length (y ∷ ys), x)))
+
+pub length_push : (vs : List (Option Term)) (v : Option Term) (n : ℕ) → length vs ≡ n → length (vs ++ v ∷ []) ≡ n + 1
+length_push vs v n e = omega (arith, length-append vs (v ∷ []))
+
+-- the bytes are the entries so far, one more entry, and the rest
+pub found_more : (vs : List (Option Term)) (v : Option Term) (r : ℕ) (bytes rest behind : List ℕ) → length vs ≡ r → bytes ≡ flat_map register_text (enumerate_from 0 vs) ++ rest → rest ≡ register_text (r, v) ++ behind
+    → bytes ≡ flat_map register_text (enumerate_from 0 (vs ++ v ∷ [])) ++ behind
+found_more vs v r bytes rest behind len so_far e =
+    let texts = flat_map register_text (enumerate_from 0 vs) in
+    let place : 0 + length vs ≡ r = omega (arith, len) in
+    let all : flat_map register_text (enumerate_from 0 (vs ++ v ∷ [])) ≡ texts ++ register_text (r, v) = placed_more register_text 0 vs v ∙ ap (λ k. texts ++ register_text (k, v)) place in
+    so_far ∙ ap (λ t. texts ++ t) e ∙ sym (append_assoc texts (register_text (r, v)) behind) ∙ ap (λ t. t ++ behind) (sym all)

@@ -1,3 +1,4 @@
 pub mod PartLemmas
 pub mod ReadingLemmas
 pub mod EntryLemmas
+pub mod SiteLemmas

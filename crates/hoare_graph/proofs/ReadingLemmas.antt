@@ -1,9 +1,11 @@
 -- A fixed word is stripped exactly from the texts that begin with it.
-use Rattle.std.proofs.Common.{◌≡◌, ℕ, true, List, ◌++◌, length, take, drop, Some, refl, sym, ap, ◌∙◌}
+use Rattle.std.proofs.Common.{◌≡◌, ℕ, true, List, ◌++◌, length, take, drop, codes, decimal, Some, refl, sym, ap, ◌∙◌, append_assoc, lit<}
 use Rattle.std.specs.Str.{bytes_eq}
 use Rattle.std.proofs.lemmas.List.{take_at, drop_at, take-append-drop}
 use Rattle.std.proofs.lemmas.Slice.Eq.{bytes_eq-Decides}
-use Rattle.hoare_graph.specs.Reading.{strip}
+use Rattle.std.proofs.lemmas.Fmt.{decimal_digit}
+use Rattle.hoare_graph.specs.Text.{hex}
+use Rattle.hoare_graph.specs.Reading.{strip, head_text}
 
 -- each text equals itself
 pub bytes_same : (word : List ℕ) → bytes_eq word word ≡ true
@@ -18,3 +20,14 @@ strip_found word bytes rest same behind =
 -- a word is stripped from a text that begins with it
 pub strip_again : (word rest : List ℕ) → strip word (word ++ rest) ≡ Some rest
 strip_again word rest = rw (take_at word rest (length word) refl, bytes_same word, drop_at word rest (length word) refl) refl
+
+-- the number of a lone vertex
+pub zero_text : decimal 0 ≡ codes "0"
+zero_text = decimal_digit 0 (lit< tt)
+
+-- the bytes are the lines before the first site, and the rest
+pub head_found : (bytes a word b rest : List ℕ) (entry : ℕ) → bytes ≡ codes "foxdec graph 1\nf " ++ a → a ≡ word ++ b → word ≡ hex entry → b ≡ codes " 65536 4096\n" ++ rest → bytes ≡ head_text entry ++ rest
+head_found bytes a word b rest entry e1 e2 e3 e4 =
+    let usual = codes " 65536 4096\n" in
+    let tail : a ≡ (hex entry ++ usual) ++ rest = e2 ∙ ap (λ t. t ++ b) e3 ∙ ap (λ t. hex entry ++ t) e4 ∙ sym (append_assoc (hex entry) usual rest) in
+    e1 ∙ ap (λ t. codes "foxdec graph 1\nf " ++ t) tail

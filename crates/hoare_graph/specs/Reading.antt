@@ -12,6 +12,9 @@ use Rattle.hoare_graph.specs.declared.graph.Site.{Site}
 use Rattle.hoare_graph.specs.declared.graph.Graph.{Graph}
 use Rattle.hoare_graph.specs.declared.refusal.GraphRefusal.{GraphRefusal}
 use Rattle.hoare_graph.specs.declared.refusal.GraphRefusal.TheVariants.{NotBuilt, NoMemory}
+use Rattle.hoare_graph.specs.Parts.{Each}
+use Rattle.hoare_graph.specs.WellFormed.{IsSite}
+use Rattle.hoare_graph.specs.FirstPath.{HasOneVertex}
 use Rattle.hoare_graph.specs.Text.{hex, register_name, term_text, is_entry}
 
 -- the result is this graph, or memory ran out
@@ -215,3 +218,7 @@ head_at bytes = do
 -- the lines before the first site
 abbrev pub head_text : ℕ → List ℕ
 head_text entry = codes "foxdec graph 1\nf " ++ hex entry ++ codes " 65536 4096\n"
+
+-- sites that a first-path graph may have, but for their order
+abbrev pub AreSites : List Site → Type 0
+AreSites sites = Each IsSite sites × Each HasOneVertex sites

@@ -4,11 +4,14 @@
 
 mod graph;
 mod lines;
+mod reading;
 mod refusal;
 mod verdict;
 mod words;
 mod writing;
 
 pub use graph::{Function, Graph, Kind, Policy, Pred, Site, Term, Vertex};
+pub use reading::read_graph;
 pub use refusal::{GraphRefusal, NoMemory};
 pub use verdict::{Broken, Rule, Verdict};
+pub use writing::write_graph;
