@@ -4,7 +4,7 @@ use Rattle.std.specs.Str.{bytes_eq}
 use Rattle.std.proofs.lemmas.List.{take_at, drop_at, take-append-drop}
 use Rattle.std.proofs.lemmas.Slice.Eq.{bytes_eq-Decides}
 use Rattle.std.proofs.lemmas.Fmt.{decimal_digit}
-use Rattle.hoare_graph.specs.Text.{hex}
+use Rattle.hoare_graph.specs.Text.{hex, line}
 use Rattle.hoare_graph.specs.Reading.{strip, head_text}
 
 -- each text equals itself
@@ -31,3 +31,15 @@ head_found bytes a word b rest entry e1 e2 e3 e4 =
     let usual = codes " 65536 4096\n" in
     let tail : a ≡ (hex entry ++ usual) ++ rest = e2 ∙ ap (λ t. t ++ b) e3 ∙ ap (λ t. hex entry ++ t) e4 ∙ sym (append_assoc (hex entry) usual rest) in
     e1 ∙ ap (λ t. codes "foxdec graph 1\nf " ++ t) tail
+
+-- the text of a lone vertex, part by part
+pub vertex_parts : (regs cell edges rest : List ℕ) → codes "v 0\n" ++ (regs ++ (cell ++ (edges ++ rest))) ≡ (line (codes "v " ++ decimal 0) ++ regs ++ cell ++ edges) ++ rest
+vertex_parts regs cell edges rest =
+    let tail : regs ++ (cell ++ (edges ++ rest)) ≡ ((regs ++ cell) ++ edges) ++ rest = simp append_assoc in
+    ap (λ t. codes "v 0\n" ++ t) tail ∙ ap (λ n. (line (codes "v " ++ n) ++ regs ++ cell ++ edges) ++ rest) (sym zero_text)
+
+-- the bytes are the text of a lone vertex, and the rest
+pub vertex_found : (bytes a b d regs cell edges rest : List ℕ) → bytes ≡ codes "v 0\n" ++ a → a ≡ regs ++ b → b ≡ cell ++ d → d ≡ edges ++ rest
+    → bytes ≡ (line (codes "v " ++ decimal 0) ++ regs ++ cell ++ edges) ++ rest
+vertex_found bytes a b d regs cell edges rest e1 e2 e3 e4 =
+    e1 ∙ ap (λ t. codes "v 0\n" ++ t) (e2 ∙ ap (λ t. regs ++ t) (e3 ∙ ap (λ t. cell ++ t) e4)) ∙ vertex_parts regs cell edges rest

@@ -1,5 +1,5 @@
 -- What a reading of a text gives, and the first path's parts from the front of a text.
-use Rattle.std.specs.Prelude.{◌≡◌, ℕ, zero, suc, ◌+◌, ◌-◌, ◌*◌, ◌%◌, ◌^◌, ◌==◌, nat_lt, Bool, true, false, ◌&&◌, ◌||◌, if◌then◌else◌, List, [], ◌∷◌, ◌++◌, take, drop, length, map, codes, Option, Some, None, Result, Ok, Err, ⊤}
+use Rattle.std.specs.Prelude.{◌≡◌, ℕ, zero, suc, ◌+◌, ◌-◌, ◌*◌, ◌%◌, ◌^◌, ◌<◌, ◌==◌, nat_lt, Bool, true, false, ◌&&◌, ◌||◌, if◌then◌else◌, List, [], ◌∷◌, ◌++◌, take, drop, length, map, codes, Option, Some, None, Result, Ok, Err, ⊤}
 use Rattle.std.specs.Char.{digit_value}
 use Rattle.std.specs.Fmt.{decimal}
 use Rattle.std.specs.Str.{bytes_eq}
@@ -12,7 +12,7 @@ use Rattle.hoare_graph.specs.declared.graph.Site.{Site}
 use Rattle.hoare_graph.specs.declared.graph.Graph.{Graph}
 use Rattle.hoare_graph.specs.declared.refusal.GraphRefusal.{GraphRefusal}
 use Rattle.hoare_graph.specs.declared.refusal.GraphRefusal.TheVariants.{NotBuilt, NoMemory}
-use Rattle.hoare_graph.specs.Parts.{Each}
+use Rattle.hoare_graph.specs.Parts.{Each, Ascends}
 use Rattle.hoare_graph.specs.WellFormed.{IsSite}
 use Rattle.hoare_graph.specs.FirstPath.{HasOneVertex}
 use Rattle.hoare_graph.specs.Text.{hex, register_name, term_text, is_entry}
@@ -28,11 +28,15 @@ abbrev pub ◌>>=◌ : {A B : Type 0} → Option A → (A → Option B) → Opti
 None >>= f = None
 (Some x) >>= f = f x
 
+-- a refusal says that there is nothing to read, or memory ran out
+abbrev pub Refuses : {Y : Type 0} → GraphRefusal → Option Y → Type 0
+Refuses NotBuilt read = read ≡ None
+Refuses NoMemory read = ⊤
+
 -- what was returned, seen by view, is what reading gives, unless memory ran out
 abbrev pub Reads : {X Y : Type 0} → (X → Y) → Result X GraphRefusal → Option Y → Type 0
 Reads view (Ok x) read = read ≡ Some (view x)
-Reads view (Err NotBuilt) read = read ≡ None
-Reads view (Err NoMemory) read = ⊤
+Reads view (Err refusal) read = Refuses refusal read
 
 -- what stands behind a fixed word
 abbrev pub strip : List ℕ → List ℕ → Option (List ℕ)
@@ -222,3 +226,8 @@ head_text entry = codes "foxdec graph 1\nf " ++ hex entry ++ codes " 65536 4096\
 -- sites that a first-path graph may have, but for their order
 abbrev pub AreSites : List Site → Type 0
 AreSites sites = Each IsSite sites × Each HasOneVertex sites
+
+-- the sites stand in order, one at least, and only the last line is behind them
+abbrev pub AreWhole : List Site → List ℕ → Type 0
+AreWhole sites rest =
+    (rest ≡ codes "end\n") × (0 < length sites) × Ascends (map (λ s. s.addr) sites)

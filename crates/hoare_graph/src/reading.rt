@@ -1,12 +1,12 @@
 // The graph of a text.
-ghost use Rattle.std.specs.Prelude.{◌≡◌, ◌++◌, ◌∷◌, [], List, Some, codes, map, IfOk, IsTrue, ◌↔◌};
+ghost use Rattle.std.specs.Prelude.{◌≡◌, ◌++◌, ◌∷◌, [], ℕ, List, Some, codes, map, IfOk, IsTrue, ◌↔◌};
 ghost use Rattle.std.specs.List.{flat_map};
 ghost use Rattle.hoare_graph.specs.declared.graph.Site.{Site as PlainSite};
 ghost use Rattle.hoare_graph.specs.declared.graph.Graph.{Graph as PlainGraph};
 ghost use Rattle.hoare_graph.specs.Parts.{Ascends};
 ghost use Rattle.hoare_graph.specs.Text.{site_text, graph_text};
 ghost use Rattle.hoare_graph.specs.FirstPath.{IsFirstPath};
-ghost use Rattle.hoare_graph.specs.Reading.{Gives, Reads, AreSites};
+ghost use Rattle.hoare_graph.specs.Reading.{Gives, Reads, AreSites, AreWhole};
 
 use crate::graph::{Function, Graph, Site};
 use crate::lines::{read_head, read_site};
@@ -18,7 +18,7 @@ use std::alloc::Global;
 fn read_sites(alloc: Global, bytes: &[u8]) -> Result<(Items<Site>, &[u8]), GraphRefusal>
     ensures sites { IfOk result (λ x. AreSites x.0) }
     ensures found { IfOk result (λ x. bytes.now ≡ flat_map site_text x.0 ++ x.1.now) }
-    ensures only { (sites : List PlainSite) → AreSites sites → bytes.now ≡ flat_map site_text sites ++ codes "end\n" → Reads (λ x. (x.0, x.1.now)) result (Some (sites, codes "end\n")) }
+    ensures only { (sites : List PlainSite) → AreSites sites → bytes.now ≡ flat_map site_text sites ++ codes "end\n" → Reads {Y = List PlainSite × List ℕ} (λ x. (x.0, x.1.now)) result (Some (sites, codes "end\n")) }
 {
     let mut sites = Items::new(alloc);
     let mut rest = bytes;
@@ -46,6 +46,12 @@ fn ascend(sites: &[Site]) -> bool
     true
 }
 
+fn are_whole(sites: &[Site], rest: &[u8]) -> bool
+    ensures { IsTrue result ↔ AreWhole sites.now rest.now }
+{
+    rest == b"end\n".as_slice() && !sites.is_empty() && ascend(sites)
+}
+
 /// The graph whose text this is; `NotBuilt` exactly where the text is of no graph with one function
 /// of the usual frame and one vertex a site.
 pub fn read_graph(alloc: Global, text: &[u8]) -> Result<Graph, GraphRefusal>
@@ -56,7 +62,7 @@ pub fn read_graph(alloc: Global, text: &[u8]) -> Result<Graph, GraphRefusal>
 {
     let (entry, rest) = read_head(alloc, text)?;
     let (sites, rest) = read_sites(alloc, rest)?;
-    if rest != b"end\n".as_slice() || sites.is_empty() || !ascend(sites.as_slice()) {
+    if !are_whole(sites.as_slice(), rest) {
         return Err(GraphRefusal::NotBuilt);
     }
     let mut functions = Items::new(alloc);
