@@ -1,5 +1,5 @@
 -- The first-path graphs and their texts: one function, its line and its sites.
-use Rattle.std.proofs.Common.{◌≡◌, ℕ, suc, true, false, ◌<◌, ◌≤◌, ◌^◌, List, [], ◌∷◌, ◌++◌, length, map, decimal, codes, Option, Some, None, Result, Ok, Err, refl, sym, ap, subst, ◌∙◌, append_assoc, arith, lit<}
+use Rattle.std.proofs.Common.{◌≡◌, ℕ, true, false, ◌<◌, ◌^◌, List, [], ◌∷◌, ◌++◌, length, decimal, codes, Option, Some, None, Err, refl, sym, ap, subst, ◌∙◌, append_assoc, arith, lit<}
 use Rattle.std.specs.List.{flat_map}
 use Rattle.std.specs.Option.{is_some}
 use Rattle.std.proofs.lemmas.List.{append-nil}
@@ -8,11 +8,11 @@ use Rattle.hoare_graph.specs.declared.graph.Function.{Function}
 use Rattle.hoare_graph.specs.declared.graph.Graph.{Graph}
 use Rattle.hoare_graph.specs.declared.refusal.GraphRefusal.{GraphRefusal}
 use Rattle.hoare_graph.specs.declared.refusal.GraphRefusal.TheVariants.{NotBuilt, NoMemory}
-use Rattle.hoare_graph.specs.Parts.{Each, Ascends}
-use Rattle.hoare_graph.specs.WellFormed.{IsSite, IsFunction, IsWellFormed}
-use Rattle.hoare_graph.specs.FirstPath.{HasOneVertex, HasUsualFrame, IsFirstPath}
-use Rattle.hoare_graph.specs.Text.{hex, line, site_text, function_text, graph_text}
-use Rattle.hoare_graph.specs.Reading.{◌>>=◌, Gives, Refuses, AreSites, AreWhole, strip, word_at, behind_word, hex_of, head_at, head_text}
+use Rattle.hoare_graph.specs.Parts.{Each}
+use Rattle.hoare_graph.specs.WellFormed.{IsFunction}
+use Rattle.hoare_graph.specs.FirstPath.{HasUsualFrame, IsFirstPath}
+use Rattle.hoare_graph.specs.Text.{hex, line, site_text, graph_text}
+use Rattle.hoare_graph.specs.Reading.{Gives, Refuses, AreSites, AreWhole, word_at, behind_word, head_at, head_text}
 use Rattle.hoare_graph.proofs.NumberLemmas.{word_again, behind_again, hex_again, hex_word}
 
 -- a function of the usual frame
@@ -56,9 +56,17 @@ usual_numbers : codes " " ++ decimal 65536 ++ codes " " ++ decimal 4096 ≡ code
 unfolding Rattle.std.specs.Fmt.digits
 usual_numbers = refl
 
+line_parts : (entry below above : List ℕ) → line (codes "f " ++ entry ++ codes " " ++ below ++ codes " " ++ above) ≡ codes "f " ++ (entry ++ ((codes " " ++ below ++ codes " " ++ above) ++ 10 ∷ []))
+line_parts entry below above = simp append_assoc
+
 graph_parts : (entry sites below above : List ℕ) → (line (codes "foxdec graph 1") ++ ((line (codes "f " ++ entry ++ codes " " ++ below ++ codes " " ++ above) ++ sites) ++ [])) ++ line (codes "end")
     ≡ (codes "foxdec graph 1\nf " ++ entry ++ ((codes " " ++ below ++ codes " " ++ above) ++ 10 ∷ [])) ++ (sites ++ codes "end\n")
-graph_parts entry sites below above = ap (λ t. (line (codes "foxdec graph 1") ++ t) ++ line (codes "end")) (append-nil (line (codes "f " ++ entry ++ codes " " ++ below ++ codes " " ++ above) ++ sites)) ∙ simp append_assoc
+graph_parts entry sites below above =
+    let first = line (codes "foxdec graph 1") in
+    let last = line (codes "end") in
+    let head = line (codes "f " ++ entry ++ codes " " ++ below ++ codes " " ++ above) in
+    ap (λ t. (first ++ t) ++ last) (append-nil (head ++ sites)) ∙ append_assoc first (head ++ sites) last ∙ ap (λ t. first ++ t) (append_assoc head sites last)
+    ∙ ap (λ t. first ++ (t ++ (sites ++ last))) (line_parts entry below above)
 
 pub lone_text : (entry : ℕ) (sites : List Site) → graph_text (lone_function entry sites) ≡ head_text entry ++ (flat_map site_text sites ++ codes "end\n")
 lone_text entry sites =
@@ -108,16 +116,19 @@ entry_same g p text entry behind e at = ap (λ o. (or_else {A = ℕ × List ℕ}
 pub behind_same : (g : Graph) (p : Parts g) (text : List ℕ) (entry : ℕ) (behind : List ℕ) → text ≡ graph_text g → head_at text ≡ Some (entry, behind) → behind ≡ flat_map site_text p.sites ++ codes "end\n"
 behind_same g p text entry behind e at = ap (λ o. (or_else {A = ℕ × List ℕ} (entry, behind) o).1) (sym at ∙ head_is g p text e)
 
-pub sites_same : (all sites : List Site) (last rest : List ℕ) → Some (all, last) ≡ Some (sites, rest) → all ≡ sites
+abbrev pub read_as : List Site → List ℕ → Option (List Site × List ℕ)
+read_as sites rest = Some (sites, rest)
+
+pub sites_same : (all sites : List Site) (last rest : List ℕ) → read_as all last ≡ read_as sites rest → all ≡ sites
 sites_same all sites last rest e = ap (λ o. (or_else {A = List Site × List ℕ} (all, last) o).0) e
 
-pub rest_same : (all sites : List Site) (last rest : List ℕ) → Some (all, last) ≡ Some (sites, rest) → last ≡ rest
+pub rest_same : (all sites : List Site) (last rest : List ℕ) → read_as all last ≡ read_as sites rest → last ≡ rest
 rest_same all sites last rest e = ap (λ o. (or_else {A = List Site × List ℕ} (all, last) o).1) e
 
 -- the sites that were read stand in order
-pub whole_same : (g : Graph) (p : Parts g) (sites : List Site) (rest : List ℕ) → Some (p.sites, codes "end\n") ≡ Some (sites, rest) → AreWhole sites rest
+pub whole_same : (g : Graph) (p : Parts g) (sites : List Site) (rest : List ℕ) → read_as p.sites (codes "end\n") ≡ read_as sites rest → AreWhole sites rest
 whole_same g p sites rest e = subst (λ r. AreWhole sites r) (rest_same p.sites sites (codes "end\n") rest e) (subst (λ ss. AreWhole ss (codes "end\n")) (sites_same p.sites sites (codes "end\n") rest e) p.whole)
 
 -- the graph that was read is the one whose text it is
-pub graph_same : (g : Graph) (p : Parts g) (entry : ℕ) (sites : List Site) (rest : List ℕ) → entry ≡ p.entry → Some (p.sites, codes "end\n") ≡ Some (sites, rest) → lone_function entry sites ≡ g
+pub graph_same : (g : Graph) (p : Parts g) (entry : ℕ) (sites : List Site) (rest : List ℕ) → entry ≡ p.entry → read_as p.sites (codes "end\n") ≡ read_as sites rest → lone_function entry sites ≡ g
 graph_same g p entry sites rest same e = ap (λ n. lone_function n sites) same ∙ ap (λ ss. lone_function p.entry ss) (sym (sites_same p.sites sites (codes "end\n") rest e)) ∙ sym p.is

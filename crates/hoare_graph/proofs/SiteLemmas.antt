@@ -1,5 +1,5 @@
 -- A site is read again, and the sites of a text one after the other.
-use Rattle.std.proofs.Common.{◌≡◌, ℕ, zero, suc, ◌+◌, ◌<◌, ◌≤◌, ◌^◌, Bool, true, false, eqb, List, [], ◌∷◌, ◌++◌, length, take, drop, decimal, codes, Option, Some, None, refl, sym, ap, subst, ◌∙◌, append_assoc, arith}
+use Rattle.std.proofs.Common.{◌≡◌, ℕ, suc, true, false, eqb, List, [], ◌∷◌, ◌++◌, length, take, drop, decimal, codes, Option, Some, None, refl, sym, ap, subst, ◌∙◌, append_assoc, arith}
 use Rattle.std.specs.Str.{bytes_eq}
 use Rattle.std.specs.Option.{is_some}
 use Rattle.std.specs.List.{flat_map, enumerate_from}
@@ -15,8 +15,8 @@ use Rattle.hoare_graph.specs.declared.refusal.GraphRefusal.TheVariants.{NotBuilt
 use Rattle.hoare_graph.specs.Parts.{Each}
 use Rattle.hoare_graph.specs.WellFormed.{IsValue, IsEdge, IsVertex, IsSite}
 use Rattle.hoare_graph.specs.FirstPath.{HasOneEdge, HasOneVertex}
-use Rattle.hoare_graph.specs.Text.{hex, line, term_text, kind_text, registers_line, cell_line, edge_text, edges_line, vertex_text, site_text}
-use Rattle.hoare_graph.specs.Reading.{◌>>=◌, Refuses, AreSites, FitsOneEdge, strip, word_at, behind_word, hex_of, term_of, count_of, registers_at, cell_or, cell_at, edge_at, edges_at, vertex_at, return_or, kind_at, site_at, head_at, head_text}
+use Rattle.hoare_graph.specs.Text.{hex, line, term_text, kind_text, registers_line, cell_line, edges_line, vertex_text, site_text}
+use Rattle.hoare_graph.specs.Reading.{Refuses, AreSites, FitsOneEdge, strip, cell_or, cell_at, edge_at, edges_at, vertex_at, kind_at, site_at}
 use Rattle.hoare_graph.proofs.ReadingLemmas.{strip_again, vertex_parts}
 use Rattle.hoare_graph.proofs.NumberLemmas.{word_again, behind_again, hex_again, hex_word, count_again, count_word}
 use Rattle.hoare_graph.proofs.TermLemmas.{term_again, term_word}

@@ -1,12 +1,12 @@
 -- A term that is written is read again, as a word that ends where it ends.
-use Rattle.std.proofs.Common.{◌≡◌, ℕ, zero, suc, ◌<◌, ◌≤◌, ◌^◌, Bool, true, false, List, [], ◌∷◌, ◌++◌, length, take, codes, Option, Some, None, refl, sym, ap, ◌∙◌, arith, inl, inr}
+use Rattle.std.proofs.Common.{◌≡◌, ℕ, zero, suc, ◌<◌, false, codes, Option, Some, None, refl, sym, ap, ◌∙◌, arith, inl, inr}
 use Rattle.std.specs.Str.{bytes_eq}
 use Rattle.std.proofs.lemmas.Bool.{cases_Bool}
 use Rattle.std.proofs.lemmas.Slice.Eq.{bytes_eq-Decides}
 use Rattle.hoare_graph.specs.declared.graph.Term.{Term}
 use Rattle.hoare_graph.specs.declared.graph.Term.TheVariants.{Number, Entry, Ra}
 use Rattle.hoare_graph.specs.WellFormed.{IsTerm, IsValue}
-use Rattle.hoare_graph.specs.Text.{number_text, register_name, term_text, value_text}
+use Rattle.hoare_graph.specs.Text.{number_text, term_text, value_text}
 use Rattle.hoare_graph.specs.Reading.{number_or, loose_of, term_of, value_of}
 use Rattle.hoare_graph.proofs.ReadingLemmas.{bytes_same}
 use Rattle.hoare_graph.proofs.NumberLemmas.{IsWord, number_again, number_word}

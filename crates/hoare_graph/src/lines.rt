@@ -1,5 +1,5 @@
 // The lines of the text, each read from the front.
-ghost use Rattle.std.specs.Prelude.{◌≡◌, ◌++◌, ◌∷◌, [], ◌<◌, length, false, codes, IfOk, IfSome};
+ghost use Rattle.std.specs.Prelude.{◌≡◌, ◌++◌, ◌∷◌, [], ◌<◌, ◌^◌, length, false, codes, IfOk, IfSome};
 ghost use Rattle.std.specs.List.{flat_map, enumerate_from};
 ghost use Rattle.std.specs.Option.{option_map};
 ghost use Rattle.hoare_graph.specs.Parts.{Each};
@@ -232,6 +232,7 @@ pub fn read_site(alloc: Global, bytes: &[u8]) -> Result<(Site, &[u8]), GraphRefu
 #[tactic(auto, unfolding(crate::specs::Reading::head_at))]
 pub fn read_head(alloc: Global, bytes: &[u8]) -> Result<(u64, &[u8]), GraphRefusal>
     ensures exact { Reads (λ x. (x.0, x.1.now)) result (head_at bytes.now) }
+    ensures fits { IfOk result (λ x. x.0 < 2 ^ 64) }
     ensures found { IfOk result (λ x. bytes.now ≡ head_text x.0 ++ x.1.now) }
 {
     let rest = read_word(bytes, b"foxdec graph 1\nf ")?;

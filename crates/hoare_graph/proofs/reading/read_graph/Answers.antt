@@ -1,8 +1,7 @@
-use Rattle.std.proofs.Common.{◌≡◌, ℕ, List, codes, Some, refl, sym, ap, ◌∙◌}
+use Rattle.std.proofs.Common.{◌≡◌, true, false, sym, subst, ◌∙◌}
 use Rattle.std.proofs.lemmas.Result.{err_from_is_err_and}
-use Rattle.hoare_graph.specs.declared.graph.Graph.{Graph}
-use Rattle.hoare_graph.specs.Reading.{Refuses, head_at}
-use Rattle.hoare_graph.proofs.GraphLemmas.{Parts, parts_of, is_first, found_graph, head_is, gives_refusal, entry_same, behind_same, whole_same, graph_same}
+use Rattle.hoare_graph.specs.Reading.{Refuses, AreWhole}
+use Rattle.hoare_graph.proofs.GraphLemmas.{parts_of, is_first, found_graph, head_is, gives_refusal, entry_same, behind_same, whole_same, graph_same}
 use Rattle.hoare_graph.proofs.reading.read_graph.Goals as goal
 
 pub returns-in_err-entry-clause-only : goal.returns-in_err-entry-clause-only
@@ -24,13 +23,15 @@ returns-then-not-are_whole-clause-only c = λ g first e.
     let p = parts_of g first in
     let behind = behind_same g p c.args.text.now c.in_ok-entry.entry c.in_ok-entry.rest.now e c.in_ok-entry.ensures.exact in
     let whole = whole_same g p c.in_ok-sites.sites c.in_ok-sites.rest.now (c.in_ok-sites.ensures.only p.sites p.are behind) in
-    let h = c.if-not-are_whole.true in
-    let k = c.are_whole.ensures in
-    ?
+    let no : c.are_whole.result ≡ false = c.if-not-are_whole.true in
+    absurd (let h : true ≡ false = sym (c.are_whole.ensures.1 (subst (λ ss. AreWhole ss c.in_ok-sites.rest.now) (sym c.as_slice.ensures) whole)) ∙ no in cc)
 
 pub returns-clause-found : goal.returns-clause-found
 returns-clause-found c =
-    ?
+    let entry = c.in_ok-entry.entry in
+    let sites = c.in_ok-sites.sites in
+    let whole = subst (λ ss. AreWhole ss c.in_ok-sites.rest.now) c.as_slice.ensures (c.are_whole.ensures.0 c.if-not-are_whole.false) in
+    rw (c.in_ok-push.ensures.ok, c.new-functions.ensures) (is_first entry sites c.in_ok-sites.rest.now c.in_ok-entry.ensures.fits c.in_ok-sites.ensures.sites whole, found_graph c.args.text.now c.in_ok-entry.rest.now c.in_ok-sites.rest.now entry sites c.in_ok-entry.ensures.found c.in_ok-sites.ensures.found whole)
 
 pub returns-clause-only : goal.returns-clause-only
 returns-clause-only c = λ g first e.
@@ -38,4 +39,4 @@ returns-clause-only c = λ g first e.
     let behind = behind_same g p c.args.text.now c.in_ok-entry.entry c.in_ok-entry.rest.now e c.in_ok-entry.ensures.exact in
     let same = entry_same g p c.args.text.now c.in_ok-entry.entry c.in_ok-entry.rest.now e c.in_ok-entry.ensures.exact in
     let all = graph_same g p c.in_ok-entry.entry c.in_ok-sites.sites c.in_ok-sites.rest.now same (c.in_ok-sites.ensures.only p.sites p.are behind) in
-    ?
+    rw (c.in_ok-push.ensures.ok, c.new-functions.ensures) all
