@@ -13,6 +13,7 @@ use Rattle.hoare_graph.specs.WellFormed.{IsFunction}
 use Rattle.hoare_graph.specs.FirstPath.{HasUsualFrame, IsFirstPath}
 use Rattle.hoare_graph.specs.Text.{hex, line, site_text, graph_text}
 use Rattle.hoare_graph.specs.Reading.{Gives, Refuses, AreSites, AreWhole, word_at, behind_word, head_at, head_text}
+use Rattle.hoare_graph.proofs.SiteLemmas.{same_sites}
 use Rattle.hoare_graph.proofs.NumberLemmas.{word_again, behind_again, hex_again, hex_word}
 
 -- a function of the usual frame
@@ -132,3 +133,13 @@ whole_same g p sites rest e = subst (λ r. AreWhole sites r) (rest_same p.sites 
 -- the graph that was read is the one whose text it is
 pub graph_same : (g : Graph) (p : Parts g) (entry : ℕ) (sites : List Site) (rest : List ℕ) → entry ≡ p.entry → read_as p.sites (codes "end\n") ≡ read_as sites rest → lone_function entry sites ≡ g
 graph_same g p entry sites rest same e = ap (λ n. lone_function n sites) same ∙ ap (λ ss. lone_function p.entry ss) (sym (sites_same p.sites sites (codes "end\n") rest e)) ∙ sym p.is
+
+-- two first-path graphs with one text are equal
+pub one_graph : (a b : Graph) → IsFirstPath a → IsFirstPath b → graph_text a ≡ graph_text b → a ≡ b
+one_graph a b first_a first_b e =
+    let p = parts_of a first_a in
+    let q = parts_of b first_b in
+    let at = head_is a p (graph_text a) refl in
+    let entry = entry_same b q (graph_text a) p.entry (flat_map site_text p.sites ++ codes "end\n") e at in
+    let sites = same_sites p.sites q.sites p.are q.are (behind_same b q (graph_text a) p.entry (flat_map site_text p.sites ++ codes "end\n") e at) in
+    p.is ∙ ap (λ n. lone_function n p.sites) entry ∙ ap (λ ss. lone_function q.entry ss) sites ∙ sym q.is

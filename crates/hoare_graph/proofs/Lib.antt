@@ -6,3 +6,4 @@ pub mod TermLemmas
 pub mod RegisterLemmas
 pub mod SiteLemmas
 pub mod GraphLemmas
+pub mod LookupLemmas

@@ -200,3 +200,21 @@ found_site sites s bytes rest behind next so_far e text =
 pub refused : {X Y : Type 0} (refusal : GraphRefusal) (read : Option X) (y : Y) → Refuses refusal read → (read ≡ None → ⊥) → Refuses refusal (Some y)
 refused NotBuilt read y none some = absurd (some none)
 refused NoMemory read y none some = tt
+
+abbrev read_site : Site → List ℕ → Option (Site × List ℕ)
+read_site s rest = Some (s, rest)
+
+-- sites with one text are equal
+pub same_sites : (xs ys : List Site) → AreSites xs → AreSites ys → flat_map site_text xs ++ codes "end\n" ≡ flat_map site_text ys ++ codes "end\n" → xs ≡ ys
+same_sites [] [] are_xs are_ys e = refl
+same_sites [] (y ∷ ys) are_xs are_ys e = let n = next_site y ys (codes "end\n") are_ys e in absurd (no_site n.0 n.1)
+same_sites (x ∷ xs) [] are_xs are_ys e = let n = next_site x xs (codes "end\n") are_xs (sym e) in absurd (no_site n.0 n.1)
+same_sites (x ∷ xs) (y ∷ ys) are_xs are_ys e =
+    let texts = flat_map site_text (x ∷ xs) ++ codes "end\n" in
+    let m = next_site x xs texts are_xs refl in
+    let n = next_site y ys texts are_ys e in
+    let same : m.0 ≡ n.0 = ap (drop 2) (sym m.1 ∙ n.1) in
+    let both : read_site x (flat_map site_text xs ++ codes "end\n") ≡ read_site y (flat_map site_text ys ++ codes "end\n") = sym m.2 ∙ ap site_at same ∙ n.2 in
+    let first : x ≡ y = ap (λ o. (or_else {A = Site × List ℕ} (x, []) o).0) both in
+    let others : flat_map site_text xs ++ codes "end\n" ≡ flat_map site_text ys ++ codes "end\n" = ap (λ o. (or_else {A = Site × List ℕ} (x, []) o).1) both in
+    ap (λ s. s ∷ xs) first ∙ ap (λ ss. y ∷ ss) (same_sites xs ys (are_xs.0.1, are_xs.1.1) (are_ys.0.1, are_ys.1.1) others)

@@ -74,3 +74,13 @@ pub fn read_graph(alloc: Global, text: &[u8]) -> Result<Graph, GraphRefusal>
     })?;
     Ok(Graph { functions })
 }
+
+/// Two graphs of one function with the usual frame and one vertex a site that have one text are
+/// equal.
+pub fn one_text(a: &Graph, b: &Graph)
+    requires first { IsFirstPath a.now }
+    requires second { IsFirstPath b.now }
+    requires text { graph_text a.now ≡ graph_text b.now }
+    ensures { a.now ≡ b.now }
+{
+}
