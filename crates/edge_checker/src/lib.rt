@@ -1,13 +1,12 @@
-// A library with one function.
+//! The checker of Hoare graphs: whether a graph breaks a rule against an executable, and which one first.
+//! It trusts nothing that made the graph, and takes no memory.
 #![tactic(auto)]
 
-ghost use Rattle.std.specs.Prelude.{◌≡◌};
-ghost use Rattle.edge_checker.specs.Echo.{echo_of};
+mod checking;
+mod entails;
+mod instruction;
+mod places;
+mod sites;
+mod vertices;
 
-// The `ensures` clause is the contract: what `echo` returns is `echo_of` of its argument, a definition
-// in `specs/Echo.antt`, which a caller's clause can cite too.
-pub fn echo(x: usize) -> usize
-    ensures { result ≡ echo_of x }
-{
-    x
-}
+pub use checking::{NoMemory, check};

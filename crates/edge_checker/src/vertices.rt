@@ -1,0 +1,53 @@
+// The first rule that a vertex breaks.
+ghost use Rattle.std.specs.Prelude.{◌≡◌, ℕ, map};
+ghost use Rattle.hoare_graph.specs.Parts.{Ascends};
+ghost use Rattle.edge_checker.specs.Breaks.{first, edge_rules, vertex_breaks};
+
+use hoare_graph::{Broken, Function, Kind, Pred, Rule, Site, Vertex};
+
+use crate::entails::{PRESERVED, first_missing, keeps_entry};
+use crate::instruction::{Instruction, address_after};
+use crate::places::vertex_there;
+
+/// The first break at the vertex with the number.
+pub fn vertex_break(f: &Function, s: &Site, instruction: Instruction, number: u32, v: &Vertex) -> Option<Broken>
+    requires { Ascends (map (λ s. s.addr) f.now.sites) }
+    ensures { result ≡ first (vertex_breaks f.now s.now instruction (number, v.now)) }
+{
+    let rule = match s.kind {
+        Kind::Step => step_rule(f, s, instruction, v),
+        Kind::Return if keeps_entry(&v.pred, &PRESERVED) => None,
+        Kind::Return => Some(Rule::Return),
+    };
+    rule.map(|rule| Broken {
+        function: f.entry,
+        site: s.addr,
+        vertex: number,
+        case: 0,
+        rule,
+    })
+}
+
+// The first rule that the vertex of a step breaks.
+fn step_rule(f: &Function, s: &Site, instruction: Instruction, v: &Vertex) -> Option<Rule>
+    requires { Ascends (map (λ s. s.addr) f.now.sites) }
+{
+    let [edge] = v.out.as_slice() else {
+        return Some(Rule::Cases);
+    };
+    edge_rule(f, s, instruction, &v.pred, *edge)
+}
+
+// The first rule that the edge breaks.
+fn edge_rule(f: &Function, s: &Site, instruction: Instruction, p: &Pred, edge: (u64, u32)) -> Option<Rule>
+    requires { Ascends (map (λ s. s.addr) f.now.sites) }
+    ensures { result ≡ first (edge_rules f.now s.now instruction p.now edge) }
+{
+    if edge.0 != address_after(s.addr, instruction) {
+        return Some(Rule::Address);
+    }
+    match vertex_there(f, edge.0, edge.1) {
+        Some(target) => first_missing(instruction, p, &target.pred),
+        None => Some(Rule::Vertex),
+    }
+}
