@@ -58,19 +58,22 @@ abbrev pub edge_breaks : Function → Site → Instruction → ℕ × Vertex →
 edge_breaks f s i v edge =
     map (broken f.entry s.addr v.0 edge.0) (edge_rules f s i v.1.pred edge.1)
 
-abbrev pub vertex_rules : Kind → Vertex → List Rule
-vertex_rules Step v = unless (length v.out == 1) Rule.Cases
-vertex_rules Return v = unless (keeps preserved v.pred) Rule.Return
+-- a step has one case, and an edge for it
+abbrev pub step_breaks : Function → Site → Instruction → ℕ × Vertex → List Broken
+step_breaks f s i v =
+    map (broken f.entry s.addr v.0 0) (unless (length v.1.out == 1) Rule.Cases)
+    ++ flat_map (edge_breaks f s i v) (enumerate_from 0 v.1.out)
 
--- the edges of a step
-abbrev pub edges_of : Kind → Vertex → List (ℕ × ℕ)
-edges_of Step v = v.out
-edges_of Return v = []
+abbrev pub return_breaks : Function → Site → ℕ × Vertex → List Broken
+return_breaks f s v =
+    map (broken f.entry s.addr v.0 0) (unless (keeps preserved v.1.pred) Rule.Return)
+
+abbrev pub breaks_of_kind : Kind → Function → Site → Instruction → ℕ × Vertex → List Broken
+breaks_of_kind Step f s i v = step_breaks f s i v
+breaks_of_kind Return f s i v = return_breaks f s v
 
 abbrev pub vertex_breaks : Function → Site → Instruction → ℕ × Vertex → List Broken
-vertex_breaks f s i v =
-    map (broken f.entry s.addr v.0 0) (vertex_rules s.kind v.1)
-    ++ flat_map (edge_breaks f s i v) (enumerate_from 0 (edges_of s.kind v.1))
+vertex_breaks f s i v = breaks_of_kind s.kind f s i v
 
 -- a step is at no return, a return at one
 abbrev pub fits : Kind → Instruction → Bool

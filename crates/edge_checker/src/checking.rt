@@ -26,13 +26,22 @@ pub fn check(alloc: Global, image: &Image, g: &Graph, full: Option<&Policy>) -> 
     ensures exact { IfOk result (λ v. v ≡ verdict_of image.now g.now) }
     ensures valid { IfOk result (λ v. (v ≡ Verdict.Valid) ↔ IsValid image.now g.now) }
 {
-    let _ = (alloc, full);
+    let _ = alloc;
+    let _ = full;
+    Ok(judge(image, g))
+}
+
+// The verdict; it takes no memory.
+fn judge(image: &Image, g: &Graph) -> Verdict
+    requires { IsWellFormed g.now }
+    ensures { result ≡ verdict_of image.now g.now }
+{
     if let Some(site) = first_unbuilt(image, g) {
-        return Ok(Verdict::NotBuilt { site });
+        return Verdict::NotBuilt { site };
     }
     match first_break(image, g) {
-        Some(broken) => Ok(Verdict::Invalid(broken)),
-        None => Ok(Verdict::Valid),
+        Some(broken) => Verdict::Invalid(broken),
+        None => Verdict::Valid,
     }
 }
 

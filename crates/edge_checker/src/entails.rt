@@ -20,7 +20,7 @@ pub const PRESERVED: [u8; 7] = [3, 4, 5, 12, 13, 14, 15];
 pub fn keeps_entry(p: &Pred, kept: &[u8]) -> bool
     ensures { result ≡ keeps kept.now p.now }
 {
-    kept.iter().all(|r| has_entry(p, *r)) && knows(p.cell, Some(Term::Ra))
+    have_entries(p, kept) && knows(p.cell, Some(Term::Ra))
 }
 
 /// The first conjunct of `q` that does not hold after the instruction where `p` holds before it.
@@ -54,6 +54,13 @@ fn knows(known: Option<Term>, asked: Option<Term>) -> bool
         (None, Some(_)) => false,
         (Some(t), Some(u)) => is_same(t, u),
     }
+}
+
+// Whether the registers have their entry symbols.
+fn have_entries(p: &Pred, kept: &[u8]) -> bool
+    ensures { result ≡ list_all (λ r. is_entry r (register_of p.now r)) kept.now }
+{
+    kept.iter().all(|r| has_entry(p, *r))
 }
 
 fn has_entry(p: &Pred, r: u8) -> bool

@@ -1,7 +1,7 @@
 // The first rule that a vertex breaks.
 ghost use Rattle.std.specs.Prelude.{◌≡◌, ℕ, map};
 ghost use Rattle.hoare_graph.specs.Parts.{Ascends};
-ghost use Rattle.edge_checker.specs.Breaks.{first, edge_rules, vertex_breaks};
+ghost use Rattle.edge_checker.specs.Breaks.{first, broken, edge_rules, step_breaks, vertex_breaks};
 
 use hoare_graph::{Broken, Function, Kind, Pred, Rule, Site, Vertex};
 
@@ -14,28 +14,38 @@ pub fn vertex_break(f: &Function, s: &Site, instruction: Instruction, number: u3
     requires { Ascends (map (λ s. s.addr) f.now.sites) }
     ensures { result ≡ first (vertex_breaks f.now s.now instruction (number, v.now)) }
 {
-    let rule = match s.kind {
-        Kind::Step => step_rule(f, s, instruction, v),
+    match s.kind {
+        Kind::Step => step_break(f, s, instruction, number, v),
         Kind::Return if keeps_entry(&v.pred, &PRESERVED) => None,
-        Kind::Return => Some(Rule::Return),
+        Kind::Return => Some(broken_at(f, s, number, Rule::Return)),
+    }
+}
+
+// The first break at the vertex of a step.
+fn step_break(f: &Function, s: &Site, instruction: Instruction, number: u32, v: &Vertex) -> Option<Broken>
+    requires { Ascends (map (λ s. s.addr) f.now.sites) }
+    ensures { result ≡ first (step_breaks f.now s.now instruction (number, v.now)) }
+{
+    let [edge] = v.out.as_slice() else {
+        return Some(broken_at(f, s, number, Rule::Cases));
     };
-    rule.map(|rule| Broken {
+    match edge_rule(f, s, instruction, &v.pred, *edge) {
+        Some(rule) => Some(broken_at(f, s, number, rule)),
+        None => None,
+    }
+}
+
+// The break of a rule at a vertex, or at its one case.
+fn broken_at(f: &Function, s: &Site, number: u32, rule: Rule) -> Broken
+    ensures { result ≡ broken f.now.entry s.now.addr number 0 rule }
+{
+    Broken {
         function: f.entry,
         site: s.addr,
         vertex: number,
         case: 0,
         rule,
-    })
-}
-
-// The first rule that the vertex of a step breaks.
-fn step_rule(f: &Function, s: &Site, instruction: Instruction, v: &Vertex) -> Option<Rule>
-    requires { Ascends (map (λ s. s.addr) f.now.sites) }
-{
-    let [edge] = v.out.as_slice() else {
-        return Some(Rule::Cases);
-    };
-    edge_rule(f, s, instruction, &v.pred, *edge)
+    }
 }
 
 // The first rule that the edge breaks.
