@@ -38,7 +38,8 @@ pub goes_on : {X A : Type 0} {f : X → List A} {xs ys : List X} {i : ℕ} {whol
 goes_on {r = Some a} from same h is e some absent = cc
 goes_on {f = f} {xs = xs} {ys = ys} {i = i} {whole = whole} {x = x} {r = None} from same h is e some absent = record {
   same = from.same ∙ ap (λ zs. first (flat_map f (drop i zs))) (sym same) ∙ ap first (rest_at f ys i x h is)
-      ∙ first-append-None (f x) (flat_map f (drop (i + 1) ys)) (sym e) ∙ ap (λ zs. first (flat_map f (drop (i + 1) zs))) same }
+      ∙ first-append-None (f x) (flat_map f (drop (i + 1) ys)) (sym e) ∙ ap (λ zs. first (flat_map f (drop (i + 1) zs))) same;
+}
 
 -- behind the last place there is none
 pub ends : {X A : Type 0} {f : X → List A} {xs ys : List X} {i : ℕ} {whole : Option A} → IsFirstFrom f xs i whole → ys ≡ xs → length ys ≤ i → None ≡ whole

@@ -12,7 +12,7 @@ use Rattle.hoare_graph.specs.declared.verdict.Rule.{Rule}
 use Rattle.hoare_graph.specs.Text.{is_entry}
 use Rattle.edge_checker.specs.declared.instruction.Instruction.{Instruction}
 use Rattle.edge_checker.specs.declared.instruction.Instruction.TheVariants.{Nop, Ret, MoveImmediate}
-use Rattle.edge_checker.specs.Entails.{registers, register_of, HasValue, Entails, same_term, has_value, has_registers, missing_of}
+use Rattle.edge_checker.specs.Entails.{all_registers, register_of, HasValue, Entails, same_term, has_value, has_registers, missing_of}
 use Rattle.edge_checker.specs.Rules.{Keeps, Fits}
 use Rattle.edge_checker.specs.Breaks.{keeps, fits}
 
@@ -52,9 +52,10 @@ pub keeps-Decides : (kept : List ℕ) (p : Pred) → Decides (keeps kept p) (Kee
 keeps-Decides kept p =
     let entries = all-Decides (λ r. is_entry r (register_of p r)) (λ r. register_of p r ≡ Some (Entry r)) (λ r. is_entry-Decides r (register_of p r)) kept in
     let cell = has_value-Decides p.cell (Some Ra) in
-    let both = both_hold (list_all (λ r. is_entry r (register_of p r)) kept) (has_value p.cell (Some Ra)) in
-    (λ e. record { registers = entries.0 (both.0 e).0; cell = cell.0 (both.0 e).1 },
-     λ holds. both.1 (entries.1 holds.registers, cell.1 holds.cell))
+    let both = both_hold (list_all (λ r. is_entry r (register_of p r)) kept) (has_value p.cell (Some Ra)) in (
+      λ e. record { registers = entries.0 (both.0 e).0; cell = cell.0 (both.0 e).1 },
+      λ holds. both.1 (entries.1 holds.registers, cell.1 holds.cell),
+    )
 
 pub fits-Decides : (kind : Kind) (i : Instruction) → Decides (fits kind i) (Fits kind i)
 fits-Decides Step Nop = (λ e. (λ a. cc, λ a. cc), λ e. refl)
@@ -72,8 +73,9 @@ missing-None false b = (λ e. absurd (cc), λ e. absurd (cc e.0))
 
 pub missing_of-None : (p q : Pred) → (missing_of p q ≡ None) ↔ Entails p q
 missing_of-None p q =
-    let known = all-Decides (λ r. has_value (register_of p r) (register_of q r)) (λ r. HasValue (register_of p r) (register_of q r)) (λ r. has_value-Decides (register_of p r) (register_of q r)) registers in
+    let known = all-Decides (λ r. has_value (register_of p r) (register_of q r)) (λ r. HasValue (register_of p r) (register_of q r)) (λ r. has_value-Decides (register_of p r) (register_of q r)) all_registers in
     let cell = has_value-Decides p.cell q.cell in
-    let both = missing-None (has_registers p q) (has_value p.cell q.cell) in
-    (λ e. record { registers = known.0 (both.0 e).0; cell = cell.0 (both.0 e).1 },
-     λ holds. both.1 (known.1 holds.registers, cell.1 holds.cell))
+    let both = missing-None (has_registers p q) (has_value p.cell q.cell) in (
+      λ e. record { registers = known.0 (both.0 e).0; cell = cell.0 (both.0 e).1 },
+      λ holds. both.1 (known.1 holds.registers, cell.1 holds.cell),
+    )

@@ -16,7 +16,7 @@ use Rattle.edge_checker.specs.declared.instruction.Instruction.{Instruction}
 use Rattle.edge_checker.specs.declared.instruction.Instruction.TheVariants.{Nop, Ret, MoveImmediate}
 use Rattle.edge_checker.specs.Instruction.{instruction_at}
 use Rattle.edge_checker.specs.Step.{next_address, after}
-use Rattle.edge_checker.specs.Entails.{Entails, registers, register_of}
+use Rattle.edge_checker.specs.Entails.{Entails, all_registers, register_of}
 
 -- rbx, rsp, rbp and r12 to r15, which a callee keeps (System V x86-64 psABI, section 3.2.1)
 abbrev pub preserved : List ℕ
@@ -27,11 +27,12 @@ pub record Keeps (kept : List ℕ) (p : Pred) : Type 0 where
   pub registers : All (λ r. register_of p r ≡ Some (Entry r)) kept
   pub cell : p.cell ≡ Some Ra
 
--- the vertex with the number at a site, and the one that an edge names
+-- the vertex with the number at a site that is there
 abbrev pub vertex_in : ℕ → Option Site → Option Vertex
 vertex_in n None = None
 vertex_in n (Some s) = slice_get s.vertices n
 
+-- the vertex that an edge names by its address and its number
 abbrev pub vertex_at : Function → ℕ × ℕ → Option Vertex
 vertex_at f edge = vertex_in edge.1 (site_at f edge.0)
 
@@ -39,7 +40,7 @@ vertex_at f edge = vertex_in edge.1 (site_at f edge.0)
 pub record HasEntry (f : Function) : Type 0 where
   pub vertex : Vertex
   pub found : vertex_at f (f.entry, 0) ≡ Some vertex
-  pub pred : Keeps registers vertex.pred
+  pub pred : Keeps all_registers vertex.pred
 
 -- the edge leads to the instruction's next address, to a vertex that is there and is entailed
 pub record EdgeHolds (f : Function) (s : Site) (i : Instruction) (p : Pred) (edge : ℕ × ℕ) : Type 0 where
@@ -69,6 +70,7 @@ pub record SiteHolds (image : Image) (f : Function) (s : Site) : Type 0 where
   pub fits : Fits s.kind instruction
   pub vertices : Each (VertexHolds s.kind f s instruction) s.vertices
 
+-- the entry holds, and each site
 pub record FunctionHolds (image : Image) (f : Function) : Type 0 where
   pub entry : HasEntry f
   pub sites : Each (SiteHolds image f) f.sites

@@ -4,13 +4,11 @@ ghost use Rattle.hoare_graph.specs.WellFormed.{IsWellFormed};
 ghost use Rattle.edge_checker.specs.Breaks.{first, verdict_of, breaks_of, unbuilt_of};
 ghost use Rattle.edge_checker.specs.Rules.{IsValid};
 
-use std::alloc::Global;
-
+use crate::sites::{function_break, unbuilt_site};
 use elf_image::Image;
 use hoare_graph::{Broken, Graph, Policy, Verdict};
+use std::alloc::Global;
 use thiserror::Error;
-
-use crate::sites::{function_break, unbuilt_site};
 
 /// There is no memory for the check.
 #[derive(Clone, Copy, Debug, PartialEq, Eq, Error)]
@@ -20,7 +18,12 @@ pub struct NoMemory;
 /// Checks a graph against an executable: `NotBuilt` with the first site, in the order of the file, whose instruction
 /// is not built yet; else `Invalid` with the first rule that is broken and its place; else `Valid`, exactly where
 /// every rule holds. There is no check against a policy yet. So far the check takes no memory.
-pub fn check(alloc: Global, image: &Image, g: &Graph, full: Option<&Policy>) -> Result<Verdict, NoMemory>
+pub fn check(
+    alloc: Global,
+    image: &Image,
+    g: &Graph,
+    full: Option<&Policy>,
+) -> Result<Verdict, NoMemory>
     requires policy { IsNone full }
     requires graph { IsWellFormed g.now }
     ensures exact { IfOk result (λ v. v ≡ verdict_of image.now g.now) }

@@ -3,12 +3,11 @@ ghost use Rattle.std.specs.Prelude.{◌≡◌, ℕ, Option, Some, None};
 ghost use Rattle.std.specs.List.{list_all};
 ghost use Rattle.hoare_graph.specs.Text.{is_entry};
 ghost use Rattle.edge_checker.specs.Step.{after};
-ghost use Rattle.edge_checker.specs.Entails.{register_of, same_term, has_value, has_registers, missing_of, registers};
+ghost use Rattle.edge_checker.specs.Entails.{register_of, same_term, has_value, has_registers, missing_of};
 ghost use Rattle.edge_checker.specs.Breaks.{keeps};
 
-use hoare_graph::{Pred, Rule, Term};
-
 use crate::instruction::Instruction;
+use hoare_graph::{Pred, Rule, Term};
 
 /// The numbers of the sixteen registers.
 pub const REGISTERS: [u8; 16] = [0, 1, 2, 3, 4, 5, 6, 7, 8, 9, 10, 11, 12, 13, 14, 15];
@@ -40,9 +39,7 @@ pub fn first_missing(instruction: Instruction, p: &Pred, q: &Pred) -> Option<Rul
 fn knows_registers(instruction: Instruction, p: &Pred, q: &Pred) -> bool
     ensures { result ≡ has_registers (after instruction p.now) q.now }
 {
-    REGISTERS
-        .iter()
-        .all(|r| knows(register_after(instruction, p, *r), register(q, *r)))
+    REGISTERS.iter().all(|r| knows(register_after(instruction, p, *r), register(q, *r)))
 }
 
 // Whether what is asked for, if anything, is known to be that term.
@@ -86,9 +83,8 @@ fn register_after(instruction: Instruction, p: &Pred, r: u8) -> Option<Term>
     ensures { result ≡ register_of (after instruction p.now) r }
 {
     match instruction {
-        Instruction::MoveImmediate { register, value } if register == r && (r as usize) < p.regs.len() => {
-            Some(Term::Number(value))
-        }
+        Instruction::MoveImmediate { register, value }
+            if register == r && (r as usize) < p.regs.len() => { Some(Term::Number(value)) }
         _ => register(p, r),
     }
 }

@@ -7,13 +7,12 @@ ghost use Rattle.edge_checker.specs.Breaks.{first, begins, fits, vertex_breaks, 
 ghost use Rattle.edge_checker.specs.Instruction.{instruction_at};
 ghost use Rattle.edge_checker.specs.Rules.{vertex_at};
 
-use elf_image::Image;
-use hoare_graph::{Broken, Function, Kind, Rule, Site};
-
 use crate::entails::{REGISTERS, keeps_entry};
 use crate::instruction::{Instruction, decode};
 use crate::places::vertex_there;
 use crate::vertices::vertex_break;
+use elf_image::Image;
+use hoare_graph::{Broken, Function, Kind, Rule, Site};
 
 /// The first break in the function.
 pub fn function_break(image: &Image, f: &Function) -> Option<Broken>

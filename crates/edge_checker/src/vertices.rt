@@ -3,14 +3,19 @@ ghost use Rattle.std.specs.Prelude.{◌≡◌, ℕ, map};
 ghost use Rattle.hoare_graph.specs.Parts.{Ascends};
 ghost use Rattle.edge_checker.specs.Breaks.{first, broken, edge_rules, step_breaks, vertex_breaks};
 
-use hoare_graph::{Broken, Function, Kind, Pred, Rule, Site, Vertex};
-
 use crate::entails::{PRESERVED, first_missing, keeps_entry};
 use crate::instruction::{Instruction, address_after};
 use crate::places::vertex_there;
+use hoare_graph::{Broken, Function, Kind, Pred, Rule, Site, Vertex};
 
 /// The first break at the vertex with the number.
-pub fn vertex_break(f: &Function, s: &Site, instruction: Instruction, number: u32, v: &Vertex) -> Option<Broken>
+pub fn vertex_break(
+    f: &Function,
+    s: &Site,
+    instruction: Instruction,
+    number: u32,
+    v: &Vertex,
+) -> Option<Broken>
     requires { Ascends (map (λ s. s.addr) f.now.sites) }
     ensures { result ≡ first (vertex_breaks f.now s.now instruction (number, v.now)) }
 {
@@ -22,7 +27,13 @@ pub fn vertex_break(f: &Function, s: &Site, instruction: Instruction, number: u3
 }
 
 // The first break at the vertex of a step.
-fn step_break(f: &Function, s: &Site, instruction: Instruction, number: u32, v: &Vertex) -> Option<Broken>
+fn step_break(
+    f: &Function,
+    s: &Site,
+    instruction: Instruction,
+    number: u32,
+    v: &Vertex,
+) -> Option<Broken>
     requires { Ascends (map (λ s. s.addr) f.now.sites) }
     ensures { result ≡ first (step_breaks f.now s.now instruction (number, v.now)) }
 {
@@ -49,7 +60,13 @@ fn broken_at(f: &Function, s: &Site, number: u32, rule: Rule) -> Broken
 }
 
 // The first rule that the edge breaks.
-fn edge_rule(f: &Function, s: &Site, instruction: Instruction, p: &Pred, edge: (u64, u32)) -> Option<Rule>
+fn edge_rule(
+    f: &Function,
+    s: &Site,
+    instruction: Instruction,
+    p: &Pred,
+    edge: (u64, u32),
+) -> Option<Rule>
     requires { Ascends (map (λ s. s.addr) f.now.sites) }
     ensures { result ≡ first (edge_rules f.now s.now instruction p.now edge) }
 {
