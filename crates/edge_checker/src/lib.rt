@@ -10,3 +10,6 @@ mod sites;
 mod vertices;
 
 pub use checking::{NoMemory, check};
+
+#[cfg(test)]
+mod tests;
