@@ -128,6 +128,7 @@ fn a_step_with_two_edges_breaks_cases(rt: HostRuntime) -> Result<(), Fail> {
 
 #[test]
 fn a_graph_that_breaks_no_rule_is_valid(rt: HostRuntime) -> Result<(), Fail> {
+    validity();
     assert_eq!(rt; verdict(rt.alloc(), MOVE, RETURN)?, Verdict::Valid);
     Ok(())
 }
