@@ -1,2 +1,4 @@
 pub mod Image
 pub mod BaseFile
+pub mod Loaded
+pub mod Gives
