@@ -1,9 +1,9 @@
 -- The cases of each ordinary instruction.
-use Rattle.std.proofs.Common.{◌≡◌, ℕ, List, [], ◌∷◌, ◌⊎◌, inl, inr, refl}
+use Rattle.std.proofs.Common.{◌≡◌, ℕ, [], ◌∷◌, ◌⊎◌, inl, inr, refl}
 use Rattle.std.specs.Prelude.{Some}
 use Rattle.simulation.specs.World.{View}
 use Rattle.simulation_example.specs.declared.machine.Instr.{Instr}
-use Rattle.simulation_example.specs.declared.machine.Instr.TheVariants.{Nop, Draw, Swap, Branch, Call, Syscall, Ret}
+use Rattle.simulation_example.specs.declared.machine.Instr.TheVariants.{Nop, Draw, Swap, Branch}
 use Rattle.simulation_example.specs.declared.predicate.Region.{Region}
 use Rattle.simulation_example.specs.declared.predicate.Pred.{Pred}
 use Rattle.simulation_example.specs.Machine.{next_of}

@@ -1,5 +1,5 @@
 -- Lemmas on two short lists that stand beside each other.
-use Rattle.std.proofs.Common.{◌≡◌, ℕ, ◌<◌, ◌≤◌, ◌↔◌, List, [], ◌∷◌, length, slice_index_or, refl, arith}
+use Rattle.std.proofs.Common.{◌<◌, ◌≤◌, ◌↔◌, List, [], ◌∷◌, length, slice_index_or, refl, arith}
 use Rattle.std.specs.Prelude.{Any}
 use Rattle.std.specs.List.{AllZip}
 

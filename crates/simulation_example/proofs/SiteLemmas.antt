@@ -1,5 +1,5 @@
 -- Lemmas on the rules of a site at the instruction that stands there.
-use Rattle.std.proofs.Common.{◌≡◌, ℕ, Bool, ◌↔◌, IsTrue, sym, subst}
+use Rattle.std.proofs.Common.{◌≡◌, Bool, ◌↔◌, IsTrue, sym, subst}
 use Rattle.std.specs.Prelude.{Some, All, slice_get}
 use Rattle.simulation.specs.World.{Class}
 use Rattle.simulation.specs.Valid.{Place, EachVertex, AtInstr, KindHolds}

@@ -1,9 +1,13 @@
 -- The world of the theorem for the small machine, its predicates and the graphs of its code.
-use Rattle.std.specs.Prelude.{◌≡◌, ℕ, ◌+◌, ◌-◌, ◌%◌, ◌^◌, ◌≤◌, Option, Some, None, List, [], ◌∷◌, length, slice_get}
+use Rattle.std.specs.Prelude.{◌≡◌, ℕ, ◌+◌, ◌-◌, ◌%◌, ◌^◌, ◌≤◌, Option, Some, None}
+use Rattle.std.specs.Prelude.{List, [], ◌∷◌, length, slice_get}
+use Rattle.simulation.specs.Registers.{rsp}
 use Rattle.simulation.specs.World as theory
 use Rattle.simulation.specs.World.{World, View, Case}
+use Rattle.simulation.specs.Valid.{Place}
 use Rattle.simulation_example.specs.declared.machine.Instr.{Instr}
-use Rattle.simulation_example.specs.declared.machine.Instr.TheVariants.{Nop, Draw, Swap, Branch, Call, Syscall, Ret}
+use Rattle.simulation_example.specs.declared.machine.Instr.TheVariants.{Nop, Draw, Swap}
+use Rattle.simulation_example.specs.declared.machine.Instr.TheVariants.{Branch, Call, Syscall, Ret}
 use Rattle.simulation_example.specs.declared.machine.Image.{Image}
 use Rattle.simulation_example.specs.declared.predicate.Region.{Region}
 use Rattle.simulation_example.specs.declared.predicate.Pred.{Pred}
@@ -13,13 +17,19 @@ use Rattle.simulation_example.specs.declared.graph.Kind.TheVariants as kind
 use Rattle.simulation_example.specs.declared.graph.Site.{Site}
 use Rattle.simulation_example.specs.declared.graph.Function.{Function}
 use Rattle.simulation_example.specs.declared.graph.Graph.{Graph}
-use Rattle.simulation_example.specs.Machine.{State, IsState, next_of, class_of, pushed, next, named_value, target_of}
-use Rattle.simulation_example.specs.Predicate.{Valuation, fresh, named, return_address, Sat, Entails, Returns, entry_pred, step_of, after_of, KeepsHold}
+use Rattle.simulation_example.specs.Machine.{State, IsState, next_of, class_of, pushed, next}
+use Rattle.simulation_example.specs.Machine.{named_value, target_of}
+use Rattle.simulation_example.specs.Predicate.{Valuation, fresh, named, return_address, Sat}
+use Rattle.simulation_example.specs.Predicate.{Entails, Returns, KeepsHold}
+use Rattle.simulation_example.specs.Predicate.{entry_pred, step_of, after_of}
+
+-- a case with its address and predicate
+abbrev pub case_at : ℕ → Pred → Case Pred
+case_at address pred = record { address = address; pred = pred }
 
 -- the case that leads to an address after an ordinary instruction
 abbrev pub case_to : ℕ → View Region → Instr → Pred → Case Pred
-case_to address view instr pred =
-    record { address = address; pred = step_of view.address instr pred }
+case_to address view instr pred = case_at address (step_of view.address instr pred)
 
 -- the cases of an ordinary instruction: the next address, and a branch's target
 unfoldable pub cases : View Region → Instr → Pred → Option (List (Case Pred))
@@ -50,7 +60,7 @@ AreSeparate first second =
 
 -- the address of a region
 abbrev pub address_of : Region → Valuation → ℕ
-address_of region valuation = (valuation.start.regs 4 + region.offset) % 2 ^ 64
+address_of region valuation = (valuation.start.regs rsp + region.offset) % 2 ^ 64
 
 -- the world of the theorem for an image; its code is not in memory, so no move can change it
 abbrev pub example : Image → World
@@ -114,3 +124,7 @@ example image =
       SameBytes = λ region valuation old new.
           old (address_of region valuation) ≡ new (address_of region valuation);
     }
+
+-- an instruction of an image at a site of a function
+abbrev pub place_at : (image : Image) → Function → Site → Instr → Place (example image)
+place_at image function site instr = record { function = function; site = site; instr = instr }

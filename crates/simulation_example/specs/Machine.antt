@@ -1,9 +1,11 @@
 -- What the small machine does: its states, and the state after each instruction.
-use Rattle.std.specs.Prelude.{ℕ, ◌+◌, ◌-◌, ◌%◌, ◌^◌, ◌<◌, Option, Some, None, ◌==◌, if◌then◌else◌}
+use Rattle.std.specs.Prelude.{ℕ, ◌+◌, ◌-◌, ◌%◌, ◌^◌, ◌<◌, Option, Some, None}
+use Rattle.std.specs.Prelude.{◌==◌, if◌then◌else◌}
 use Rattle.simulation.specs.Registers.{rax, rbx, rsp}
 use Rattle.simulation.specs.World.{Class, Ordinary, Calling, System, Returning}
 use Rattle.simulation_example.specs.declared.machine.Instr.{Instr}
-use Rattle.simulation_example.specs.declared.machine.Instr.TheVariants.{Nop, Draw, Swap, Branch, Call, Syscall, Ret}
+use Rattle.simulation_example.specs.declared.machine.Instr.TheVariants.{Nop, Draw, Swap}
+use Rattle.simulation_example.specs.declared.machine.Instr.TheVariants.{Branch, Call, Syscall, Ret}
 
 -- a state; memory is a word at each address, and words at two addresses do not overlap
 pub record State : Type 0 where

@@ -1,11 +1,13 @@
 -- What the predicates of the small machine say, and what follows from them.
-use Rattle.std.specs.Prelude.{◌≡◌, ℕ, ◌⊎◌, Bool, true, IsTrue, ◌&&◌, ◌==◌, if◌then◌else◌, List, All}
+use Rattle.std.specs.Prelude.{◌≡◌, ℕ, ◌⊎◌, Bool, true, IsTrue, ◌&&◌, ◌==◌, if◌then◌else◌}
+use Rattle.std.specs.Prelude.{List, All}
 use Rattle.std.specs.List.{list_any}
 use Rattle.simulation.specs.Registers as register
 use Rattle.simulation_example.specs.declared.machine.Instr.{Instr}
 use Rattle.simulation_example.specs.declared.machine.Instr.TheVariants.{Draw, Swap}
 use Rattle.simulation_example.specs.declared.predicate.Term.{Term}
-use Rattle.simulation_example.specs.declared.predicate.Term.TheVariants.{EntryRax, EntryRbx, Name, Unknown}
+use Rattle.simulation_example.specs.declared.predicate.Term.TheVariants.{EntryRax, EntryRbx}
+use Rattle.simulation_example.specs.declared.predicate.Term.TheVariants.{Name, Unknown}
 use Rattle.simulation_example.specs.declared.predicate.Region.{Region}
 use Rattle.simulation_example.specs.declared.predicate.Pred.{Pred}
 use Rattle.simulation_example.specs.Machine.{State, set}

@@ -1,10 +1,10 @@
-ghost use Rattle.std.specs.Prelude.{◌≡◌, ◌↔◌, false, IsTrue, IsSome, All, ◌∷◌, []};
+ghost use Rattle.std.specs.Prelude.{◌≡◌, ◌↔◌, false, IsTrue, All, ◌∷◌, []};
 ghost use Rattle.std.specs.Option.{option_copied, IsSomeAnd};
 ghost use Rattle.simulation.specs.World as theory;
-ghost use Rattle.simulation.specs.Graph.{vertex_at, callee, view_of};
+ghost use Rattle.simulation.specs.Graph.{vertex_at, view_of};
 ghost use Rattle.simulation.specs.Valid.{EdgeHolds, EdgesHold, StepHolds, AfterHolds, CallHolds};
 ghost use Rattle.simulation.specs.Valid.{KindHolds, SiteHolds, FunctionHolds, Valid};
-ghost use Rattle.simulation_example.specs.Example.{cases, kind_of, example};
+ghost use Rattle.simulation_example.specs.Example.{case_at, place_at, cases, kind_of, example};
 ghost use Rattle.simulation_example.specs.Predicate.{Returns, entry_pred};
 
 use crate::graph::{Function, Graph, Kind, Site, Vertex};
@@ -13,14 +13,16 @@ use crate::predicate::Pred;
 
 /// The vertex with a number at the first site of an address.
 fn vertex_at<'a>(function: &'a Function, address: u64, number: u32) -> Option<&'a Vertex>
-    ensures { (image : Image) → option_copied result ≡ vertex_at (example image) function.now address number }
+    ensures { (image : Image) →
+        option_copied result ≡ vertex_at (example image) function.now address number }
 {
     function.site(address)?.vertices.get(number as usize)
 }
 
 /// Whether an edge leads to its case's address, to a vertex that is there and that it entails.
 fn edge_holds(function: &Function, address: u64, pred: Pred, edge: (u64, u32)) -> bool
-    ensures { (image : Image) → IsTrue result ↔ EdgeHolds (example image) function.now (record { address = address; pred = pred }) edge }
+    ensures { (image : Image) →
+        IsTrue result ↔ EdgeHolds (example image) function.now (case_at address pred) edge }
 {
     edge.0 == address
         && match vertex_at(function, edge.0, edge.1) {
@@ -31,7 +33,8 @@ fn edge_holds(function: &Function, address: u64, pred: Pred, edge: (u64, u32)) -
 
 /// Whether the edges stand for one case.
 fn one_edge(function: &Function, address: u64, pred: Pred, out: &[(u64, u32)]) -> bool
-    ensures { (image : Image) → IsTrue result ↔ EdgesHold (example image) function.now (record { address = address; pred = pred } ∷ []) out.now }
+    ensures { (image : Image) → IsTrue result ↔
+        EdgesHold (example image) function.now (case_at address pred ∷ []) out.now }
 {
     match out {
         [edge] => edge_holds(function, address, pred, *edge),
@@ -41,7 +44,9 @@ fn one_edge(function: &Function, address: u64, pred: Pred, out: &[(u64, u32)]) -
 
 /// Whether the edges stand for two cases with one predicate.
 fn two_edges(function: &Function, address: u64, target: u64, pred: Pred, out: &[(u64, u32)]) -> bool
-    ensures { (image : Image) → IsTrue result ↔ EdgesHold (example image) function.now (record { address = address; pred = pred } ∷ record { address = target; pred = pred } ∷ []) out.now }
+    ensures { (image : Image) → IsTrue result ↔
+        EdgesHold (example image) function.now
+        (case_at address pred ∷ case_at target pred ∷ []) out.now }
 {
     match out {
         [first, second] => {
@@ -55,7 +60,9 @@ fn two_edges(function: &Function, address: u64, target: u64, pred: Pred, out: &[
 /// Whether the edges of a vertex stand for the cases of an ordinary instruction.
 #[tactic(auto, unfolding(crate::specs::Example::cases))]
 fn cases_hold(function: &Function, site: &Site, instr: Instr, vertex: &Vertex) -> bool
-    ensures { (image : Image) → IsTrue result ↔ IsSomeAnd (cases (view_of (example image) function.now site.now) instr vertex.now.pred) (λ cases. EdgesHold (example image) function.now cases vertex.now.out.items) }
+    ensures { (image : Image) → IsTrue result ↔
+        IsSomeAnd (cases (view_of (example image) function.now site.now) instr vertex.now.pred)
+        (λ cases. EdgesHold (example image) function.now cases vertex.now.out.items) }
 {
     let next = next_address(site.address);
     let pred = vertex.pred.step(site.address, instr);
@@ -68,7 +75,8 @@ fn cases_hold(function: &Function, site: &Site, instr: Instr, vertex: &Vertex) -
 
 /// Whether the rules of a vertex at a `step` site hold, where the instruction stands.
 fn step_holds(function: &Function, site: &Site, instr: Instr, vertex: &Vertex) -> bool
-    ensures { (image : Image) → IsTrue result ↔ StepHolds (example image) (record { function = function.now; site = site.now; instr = instr }) vertex.now }
+    ensures { (image : Image) → IsTrue result ↔
+        StepHolds (example image) (place_at image function.now site.now instr) vertex.now }
 {
     match site.fork {
         Some(_) => false,
@@ -78,7 +86,8 @@ fn step_holds(function: &Function, site: &Site, instr: Instr, vertex: &Vertex) -
 
 /// Whether the rules of a vertex at an `outside` site hold, where the instruction stands.
 fn after_holds(function: &Function, site: &Site, instr: Instr, vertex: &Vertex) -> bool
-    ensures { (image : Image) → IsTrue result ↔ AfterHolds (example image) (record { function = function.now; site = site.now; instr = instr }) vertex.now }
+    ensures { (image : Image) → IsTrue result ↔
+        AfterHolds (example image) (place_at image function.now site.now instr) vertex.now }
 {
     let next = next_address(site.address);
     let pred = vertex.pred.after(site.address, &site.keeps);
@@ -87,7 +96,9 @@ fn after_holds(function: &Function, site: &Site, instr: Instr, vertex: &Vertex) 
 
 /// Whether the rules of each vertex at a `step` site hold, where the instruction stands.
 fn steps_hold(function: &Function, site: &Site, instr: Instr) -> bool
-    ensures { (image : Image) → IsTrue result ↔ All (StepHolds (example image) (record { function = function.now; site = site.now; instr = instr })) site.now.vertices.items }
+    ensures { (image : Image) → IsTrue result ↔
+        All (StepHolds (example image) (place_at image function.now site.now instr))
+        site.now.vertices.items }
 {
     for vertex in &site.vertices {
         if !step_holds(function, site, instr, vertex) {
@@ -99,7 +110,9 @@ fn steps_hold(function: &Function, site: &Site, instr: Instr) -> bool
 
 /// Whether the rules of each vertex at an `outside` site hold, where the instruction stands.
 fn afters_hold(function: &Function, site: &Site, instr: Instr) -> bool
-    ensures { (image : Image) → IsTrue result ↔ All (AfterHolds (example image) (record { function = function.now; site = site.now; instr = instr })) site.now.vertices.items }
+    ensures { (image : Image) → IsTrue result ↔
+        All (AfterHolds (example image) (place_at image function.now site.now instr))
+        site.now.vertices.items }
 {
     for vertex in &site.vertices {
         if !after_holds(function, site, instr, vertex) {
@@ -116,19 +129,11 @@ fn returns_hold(site: &Site) -> bool
     site.vertices.iter().all(|vertex| vertex.pred.returns())
 }
 
-/// Whether a call of the entry begins a function of the graph.
-fn is_callee(graph: &Graph, entry: u64) -> bool
-    ensures { (image : Image) → IsTrue result ↔ IsSome (callee (example image) graph.now entry) }
-{
-    match graph.function(entry) {
-        None => false,
-        Some(function) => !function.refused,
-    }
-}
-
 /// Whether vertex 0 at the entry has the entry predicate.
 fn entry_holds(function: &Function) -> bool
-    ensures { (image : Image) → IsTrue result ↔ IsSomeAnd (vertex_at (example image) function.now function.now.entry 0) (λ vertex. vertex.pred ≡ entry_pred) }
+    ensures { (image : Image) → IsTrue result ↔
+        IsSomeAnd (vertex_at (example image) function.now function.now.entry 0)
+        (λ vertex. vertex.pred ≡ entry_pred) }
 {
     match vertex_at(function, function.entry, 0) {
         None => false,
@@ -138,7 +143,8 @@ fn entry_holds(function: &Function) -> bool
 
 /// Whether the rules of a vertex at a `call` site hold, where the instruction stands.
 fn call_holds(function: &Function, site: &Site, instr: Instr, target: u64, vertex: &Vertex) -> bool
-    ensures { (image : Image) → IsTrue result ↔ CallHolds (example image) (record { function = function.now; site = site.now; instr = instr }) target vertex.now }
+    ensures { (image : Image) → IsTrue result ↔
+        CallHolds (example image) (place_at image function.now site.now instr) target vertex.now }
 {
     match instr.call_target() {
         None => false,
@@ -148,7 +154,9 @@ fn call_holds(function: &Function, site: &Site, instr: Instr, target: u64, verte
 
 /// Whether the rules of each vertex at a `call` site hold, where the instruction stands.
 fn calls_hold(function: &Function, site: &Site, instr: Instr, target: u64) -> bool
-    ensures { (image : Image) → IsTrue result ↔ All (CallHolds (example image) (record { function = function.now; site = site.now; instr = instr }) target) site.now.vertices.items }
+    ensures { (image : Image) → IsTrue result ↔
+        All (CallHolds (example image) (place_at image function.now site.now instr) target)
+        site.now.vertices.items }
 {
     for vertex in &site.vertices {
         if !call_holds(function, site, instr, target, vertex) {
@@ -160,7 +168,8 @@ fn calls_hold(function: &Function, site: &Site, instr: Instr, target: u64) -> bo
 
 /// Whether the rules of a `step` site hold.
 fn step_site(image: &Image, function: &Function, site: &Site) -> bool
-    ensures { (graph : Graph) → IsTrue result ↔ KindHolds (example image.now) graph function.now site.now theory.Step }
+    ensures { (graph : Graph) → IsTrue result ↔
+        KindHolds (example image.now) graph function.now site.now theory.Step }
 {
     match image.instr_at(site.address) {
         None => false,
@@ -170,9 +179,10 @@ fn step_site(image: &Image, function: &Function, site: &Site) -> bool
 
 /// Whether the rules of a `call` site hold.
 fn call_site(image: &Image, graph: &Graph, function: &Function, site: &Site, target: u64) -> bool
-    ensures { IsTrue result ↔ KindHolds (example image.now) graph.now function.now site.now (theory.Call target) }
+    ensures { IsTrue result ↔
+        KindHolds (example image.now) graph.now function.now site.now (theory.Call target) }
 {
-    if !is_callee(graph, target) {
+    if !graph.has_callee(target) {
         return false;
     }
     match image.instr_at(site.address) {
@@ -183,7 +193,8 @@ fn call_site(image: &Image, graph: &Graph, function: &Function, site: &Site, tar
 
 /// Whether the rules of an `outside` site hold.
 fn outside_site(image: &Image, function: &Function, site: &Site) -> bool
-    ensures { (graph : Graph) → IsTrue result ↔ KindHolds (example image.now) graph function.now site.now theory.Outside }
+    ensures { (graph : Graph) → IsTrue result ↔
+        KindHolds (example image.now) graph function.now site.now theory.Outside }
 {
     match image.instr_at(site.address) {
         None => false,
@@ -193,7 +204,8 @@ fn outside_site(image: &Image, function: &Function, site: &Site) -> bool
 
 /// Whether the rules of a `ret` site hold.
 fn return_site(image: &Image, function: &Function, site: &Site) -> bool
-    ensures { (graph : Graph) → IsTrue result ↔ KindHolds (example image.now) graph function.now site.now theory.Return }
+    ensures { (graph : Graph) → IsTrue result ↔
+        KindHolds (example image.now) graph function.now site.now theory.Return }
 {
     match image.instr_at(site.address) {
         None => false,
@@ -203,7 +215,8 @@ fn return_site(image: &Image, function: &Function, site: &Site) -> bool
 
 /// Whether the rules of the site's kind hold.
 fn kind_holds(image: &Image, graph: &Graph, function: &Function, site: &Site) -> bool
-    ensures { IsTrue result ↔ KindHolds (example image.now) graph.now function.now site.now (kind_of site.now.kind) }
+    ensures { IsTrue result ↔
+        KindHolds (example image.now) graph.now function.now site.now (kind_of site.now.kind) }
 {
     match site.kind {
         Kind::Step => step_site(image, function, site),
@@ -230,7 +243,8 @@ fn function_holds(image: &Image, graph: &Graph, function: &Function) -> bool
 
 /// Whether all rules of each site hold.
 fn sites_hold(image: &Image, graph: &Graph, function: &Function) -> bool
-    ensures { IsTrue result ↔ All (SiteHolds (example image.now) graph.now function.now) function.now.sites.items }
+    ensures { IsTrue result ↔
+        All (SiteHolds (example image.now) graph.now function.now) function.now.sites.items }
 {
     for site in &function.sites {
         if !site_holds(image, graph, function, site) {
@@ -242,7 +256,8 @@ fn sites_hold(image: &Image, graph: &Graph, function: &Function) -> bool
 
 /// Whether all rules of a function hold, none of which is tried on a refused one.
 fn refused_or_holds(image: &Image, graph: &Graph, function: &Function) -> bool
-    ensures { IsTrue result ↔ (function.now.refused ≡ false → FunctionHolds (example image.now) graph.now function.now) }
+    ensures { IsTrue result ↔ (function.now.refused ≡ false →
+        FunctionHolds (example image.now) graph.now function.now) }
 {
     function.refused || function_holds(image, graph, function)
 }

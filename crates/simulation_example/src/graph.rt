@@ -1,5 +1,8 @@
-ghost use Rattle.std.specs.Prelude.{◌≡◌, ◌==◌, find};
+ghost use Rattle.std.specs.Prelude.{◌≡◌, ◌↔◌, ◌==◌, IsTrue, IsSome, find};
 ghost use Rattle.std.specs.Option.{option_copied};
+ghost use Rattle.simulation.specs.Graph.{callee};
+ghost use Rattle.simulation_example.specs.declared.machine.Image.{Image};
+ghost use Rattle.simulation_example.specs.Example.{example};
 
 use crate::predicate::{Pred, Region};
 
@@ -58,7 +61,8 @@ pub struct Graph {
 impl Function {
     /// The first site at the address, if there is one.
     pub fn site(&self, address: u64) -> Option<&Site>
-        ensures { option_copied result ≡ find (λ site. site.address == address) self.now.sites.items }
+        ensures { option_copied result ≡
+            find (λ site. site.address == address) self.now.sites.items }
     {
         self.sites.iter().find(|site| site.address == address)
     }
@@ -67,10 +71,22 @@ impl Function {
 impl Graph {
     /// The first function with the entry, if there is one.
     pub fn function(&self, entry: u64) -> Option<&Function>
-        ensures { option_copied result ≡ find (λ function. function.entry == entry) self.now.functions.items }
+        ensures { option_copied result ≡
+            find (λ function. function.entry == entry) self.now.functions.items }
     {
         self.functions
             .iter()
             .find(|function| function.entry == entry)
+    }
+
+    /// Whether a call of the entry begins a function: the first with the entry isn't refused.
+    pub fn has_callee(&self, entry: u64) -> bool
+        ensures { (image : Image) →
+            IsTrue result ↔ IsSome (callee (example image) self.now entry) }
+    {
+        match self.function(entry) {
+            None => false,
+            Some(function) => !function.refused,
+        }
     }
 }

@@ -1,5 +1,6 @@
-ghost use Rattle.simulation.specs.Laws.{StateLaw, BeginLaw, EntryLaw, EntailsLaw, StepLaw, TargetLaw};
-ghost use Rattle.simulation.specs.Laws.{PushLaw, CallLaw, OutsideLaw, SyscallLaw, ReturnLaw};
+ghost use Rattle.simulation.specs.Laws.{StateLaw, BeginLaw, EntryLaw, EntailsLaw};
+ghost use Rattle.simulation.specs.Laws.{StepLaw, TargetLaw, PushLaw};
+ghost use Rattle.simulation.specs.Laws.{CallLaw, OutsideLaw, SyscallLaw, ReturnLaw};
 ghost use Rattle.simulation_example.specs.Example.{example};
 
 use crate::machine::Image;

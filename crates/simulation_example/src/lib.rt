@@ -9,6 +9,8 @@ mod laws;
 mod machine;
 mod predicate;
 mod runs;
+#[cfg(test)]
+mod tests;
 
 pub use graph::{Function, Graph, Kind, Site, Vertex};
 pub use machine::{Image, Instr};

@@ -1,7 +1,8 @@
 ghost use Rattle.std.specs.Prelude.{◌≡◌, ◌↔◌, IsTrue};
 ghost use Rattle.std.specs.List.{list_any};
-ghost use Rattle.simulation_example.specs.Predicate.{forget_term, forget, step_of, is_cell, after_of};
-ghost use Rattle.simulation_example.specs.Predicate.{Covers, Entails, Returns, KeepsHold, entry_pred};
+ghost use Rattle.simulation_example.specs.Predicate.{forget_term, forget, step_of};
+ghost use Rattle.simulation_example.specs.Predicate.{is_cell, after_of, entry_pred};
+ghost use Rattle.simulation_example.specs.Predicate.{Covers, Entails, Returns, KeepsHold};
 
 use crate::machine::Instr;
 
@@ -112,7 +113,7 @@ impl Pred {
     pub fn returns(self) -> bool
         ensures { IsTrue result ↔ Returns self }
     {
-        self.rbx == Term::EntryRbx && self.cell
+        self.cell && self.rbx == Term::EntryRbx
     }
 
     /// Whether each region is the word of the return address, which has its value.

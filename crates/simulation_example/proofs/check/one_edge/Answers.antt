@@ -1,5 +1,4 @@
-use Rattle.std.proofs.Common.{◌↔◌}
-use Rattle.simulation.specs.Valid.{EdgeHolds, EdgesHold}
+use Rattle.simulation.specs.Valid.{EdgeHolds}
 use Rattle.simulation_example.specs.Example.{example}
 use Rattle.simulation_example.proofs.ListLemmas.{one_beside}
 use Rattle.simulation_example.proofs.check.one_edge.Goals as goal

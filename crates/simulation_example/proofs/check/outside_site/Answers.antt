@@ -1,6 +1,6 @@
 use Rattle.std.proofs.Common.{◌≡◌, ◌⊎◌}
 use Rattle.std.specs.Prelude.{Some, slice_get}
-use Rattle.simulation.specs.World.{Ordinary, Calling, System, Returning}
+use Rattle.simulation.specs.World.{Calling, System}
 use Rattle.simulation.specs.Valid.{AfterHolds}
 use Rattle.simulation_example.specs.Example.{example}
 use Rattle.simulation_example.proofs.SiteLemmas.{placed}

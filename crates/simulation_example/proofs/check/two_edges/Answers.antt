@@ -1,4 +1,4 @@
-use Rattle.std.proofs.Common.{◌≡◌, true, false}
+use Rattle.std.proofs.Common.{◌≡◌, false}
 use Rattle.simulation.specs.Valid.{EdgeHolds}
 use Rattle.simulation_example.specs.Example.{example}
 use Rattle.simulation_example.proofs.ListLemmas.{two_beside}
