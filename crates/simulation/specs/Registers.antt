@@ -1,4 +1,4 @@
--- The numbers of the registers that calls and returns speak of (Intel SDM volume 2, 2.2.1.2).
+-- The numbers of the registers that calls and returns speak of (Intel SDM volume 2, 3.1.1.1).
 use Rattle.std.specs.Prelude.{ℕ}
 
 -- the register of a returned value
