@@ -1,0 +1,11 @@
+pub mod Registers
+pub mod World
+pub mod Graph
+pub mod Valid
+pub mod Track
+pub mod Moves
+pub mod Keeps
+pub mod Laws
+pub mod Safe
+pub mod Invariant
+pub mod Theorem
