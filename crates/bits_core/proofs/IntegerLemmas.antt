@@ -25,4 +25,3 @@ carry_small false = record { least = omega (arith, ints); most = omega (arith, i
 pub carry_small_at : (b : Bool) (n : ℕ) (z : ℤ) → n ≡ from_bool b → z ≡ pos n → IsSmall z
 carry_small_at true n z e f = record { least = omega (arith, ints); most = omega (arith, ints) }
 carry_small_at false n z e f = record { least = omega (arith, ints); most = omega (arith, ints) }
-

@@ -45,7 +45,15 @@ fn with_flags(w: Width, unsigned: i128, signed: i128) -> (u64, Flags)
     ensures { result ≡ exactly w unsigned signed }
 {
     let value = residue(w, unsigned);
-    (value, flags(w, value, !is_held(w, false, unsigned), !is_held(w, true, signed)))
+    (
+        value,
+        flags(
+            w,
+            value,
+            !is_held(w, false, unsigned),
+            !is_held(w, true, signed),
+        ),
+    )
 }
 
 fn logical(w: Width, x: u64) -> (u64, Flags)
@@ -58,5 +66,10 @@ fn logical(w: Width, x: u64) -> (u64, Flags)
 fn flags(w: Width, value: u64, carry: bool, over: bool) -> Flags
     ensures { result ≡ flags_of w value carry over }
 {
-    Flags { carry, zero: value == 0, sign: value >= w.half(), over }
+    Flags {
+        carry,
+        zero: value == 0,
+        sign: value >= w.half(),
+        over,
+    }
 }

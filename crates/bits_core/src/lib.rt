@@ -8,7 +8,11 @@ mod flags;
 mod integers;
 mod low_bits;
 mod operations;
+#[cfg(test)]
+mod recorded;
 mod shifts;
+#[cfg(test)]
+mod tests;
 mod wide;
 mod width;
 

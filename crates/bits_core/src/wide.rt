@@ -66,7 +66,10 @@ fn divided_signed(w: Width, high: u64, low: u64, by: u64) -> Option<(u64, u64)>
     if !is_held(w, true, quotient) {
         return None;
     }
-    Some((residue(w, quotient), residue(w, dividend.wrapping_rem(divisor))))
+    Some((
+        residue(w, quotient),
+        residue(w, dividend.wrapping_rem(divisor)),
+    ))
 }
 
 // The signed number whose halves are given.

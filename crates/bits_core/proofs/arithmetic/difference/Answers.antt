@@ -12,5 +12,11 @@ returns c =
     cc (
       difference_back c.integer.result c.integer-2.result c.from-borrow_in.result (record { least = h.least; most = h.most }) (record { least = i.least; most = i.most }) l,
       difference_back c.integer-3.result c.integer-4.result c.from-borrow_in.result (record { least = j.least; most = j.most }) (record { least = k.least; most = k.most }) l,
-      c.with_flags.ensures, h.value, i.value, j.value, k.value, c.from.ensures, c.from-borrow_in.ensures
+      c.with_flags.ensures,
+      h.value,
+      i.value,
+      j.value,
+      k.value,
+      c.from.ensures,
+      c.from-borrow_in.ensures,
     )
