@@ -6,6 +6,7 @@ mod arithmetic;
 mod condition;
 mod flags;
 mod integers;
+mod laws;
 mod low_bits;
 mod operations;
 #[cfg(test)]
@@ -19,6 +20,7 @@ mod width;
 pub use arithmetic::alu;
 pub use condition::cond;
 pub use flags::Flags;
+pub use laws::{arithmetic_laws, comparison_laws};
 pub use low_bits::{cut, low_bits_laws, sext};
 pub use operations::{Alu, Shift};
 pub use shifts::shift;
