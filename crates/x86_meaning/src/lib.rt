@@ -1,0 +1,9 @@
+//! The instructions of the supported part of x86-64: their fields, and in specs/ which bytes spell which
+//! instruction. No call takes memory.
+#![tactic(auto)]
+
+mod encoding;
+mod instr;
+
+pub use encoding::{Form, ImmSize, ModRm, Parts, PrefixRule, Row, Sib, Size};
+pub use instr::{Instr, Op, Operand, Place};
