@@ -4,6 +4,8 @@
 
 mod encoding;
 mod instr;
+mod laws;
 
 pub use encoding::{Form, ImmSize, ModRm, Parts, PrefixRule, Row, Sib, Size};
 pub use instr::{Instr, Op, Operand, Place};
+pub use laws::spelled_in_form;
