@@ -1,5 +1,5 @@
 -- What is decoded is spelled so, and what is spelled so is decoded.
-use Rattle.std.proofs.Common.{◌≡◌, ℕ, ◌+◌, ◌-◌, ◌≤◌, zero, suc, Bool, true, false, cond, eqb, ◌&&◌, lit≤, inl, inr, List, [], ◌∷◌, ◌++◌, length, take, drop, Option, Some, None, refl, sym, ap, subst, ◌∙◌, append_assoc, arith}
+use Rattle.std.proofs.Common.{◌≡◌, ℕ, ◌+◌, ◌-◌, ◌^◌, ◌<◌, ◌≤◌, zero, suc, Bool, true, false, cond, eqb, ◌&&◌, lit≤, inl, inr, List, [], ◌∷◌, ◌++◌, length, take, drop, Option, Some, None, refl, sym, ap, subst, ◌∙◌, append_assoc, arith}
 use Rattle.std.specs.Prelude.{IfSome}
 use Rattle.std.specs.Option.{ForSome}
 use Rattle.std.proofs.lemmas.List.{length-append, length-take, take-append-drop}
@@ -15,7 +15,8 @@ use Rattle.x86_meaning.specs.declared.encoding.ModRm.{ModRm}
 use Rattle.x86_meaning.specs.Fields.{FitsModRm}
 use Rattle.x86_meaning.specs.Sizes.{is_length, imm_len}
 use Rattle.x86_meaning.specs.Operands.{FitsParts}
-use Rattle.x86_meaning.specs.Spells.{Encoding, IsEncoding, IsModRmOf, bytes_of, width, imm_size, meaning, endbr64, endbr64_at, IsEncoded, Spells, SpellsFront}
+use Rattle.x86_meaning.specs.Spells.{Encoding, IsEncoding, IsModRmOf, bytes_of, width, imm_size, meaning, endbr64, endbr64_at, IsEncoded, Spells, IsSpelled, SpellsFront}
+use Rattle.x86_meaning.specs.Fits.{InForm}
 use Rattle.x86_decode.specs.Reading.{prefix_len, rex_at, escaped_at, opcode_at, digit_at, row_at, Front, fields_at, encoding_at, is_endbr64, decode_at, instr_at}
 use Rattle.x86_decode.proofs.ByteLemmas.{IsBytes, bytes_taken, both_passed, same_given}
 use Rattle.x86_decode.proofs.EncodingLemmas.{encoding_takes, encoding_again}
@@ -119,6 +120,11 @@ is_found addr bytes i fits e =
 pub all_found : (addr : ℕ) (bytes : List ℕ) (r : Option Instr) → IsBytes bytes → instr_at addr (take 15 bytes) ≡ r → IfSome r (λ i. Found addr i bytes)
 all_found addr bytes (Some i) fits e = is_found addr bytes i fits e
 all_found addr bytes None fits e = tt
+
+-- by the law of a lower crate what was found is in form
+pub all_in_form : ((i : Instr) → i.addr < 2 ^ 64 → IsSpelled i → InForm i) → (addr : ℕ) (bytes : List ℕ) (r : Option Instr) → addr < 2 ^ 64 → IfSome r (λ i. Found addr i bytes) → IfSome r InForm
+all_in_form law addr bytes (Some i) lt f = law i (rw f.0 lt) (f.1.0, f.1.2)
+all_in_form law addr bytes None lt f = tt
 
 -- what a front of all bytes spells is read from the first 15
 pub is_only : (addr : ℕ) (bytes : List ℕ) (i : Instr) → i.addr ≡ addr → SpellsFront i bytes → instr_at addr (take 15 bytes) ≡ Some i

@@ -1,8 +1,8 @@
 -- The opcode map: no two rows are for the same bytes, and no opcode begins as a prefix or REX does, by tests over all rows.
-use Rattle.std.proofs.Common.{◌≡◌, ℕ, zero, suc, ◌+◌, ◌<◌, ◌≤◌, Bool, true, false, cond, ltb, leb, eqb, ◌&&◌, ◌||◌, not, List, [], ◌∷◌, Option, Some, None, find, refl, sym, ap, subst, ◌∙◌, arith, inl, inr}
+use Rattle.std.proofs.Common.{◌≡◌, ℕ, zero, suc, ◌+◌, ◌<◌, ◌≤◌, Bool, true, false, cond, ltb, leb, eqb, ◌&&◌, ◌||◌, not, ◌*◌, ◌/◌, List, [], ◌∷◌, get_or, take, drop, Option, Some, None, find, refl, sym, ap, subst, ◌∙◌, arith, inl, inr}
 use Rattle.std.specs.Prelude.{Contains, is_none}
 use Rattle.std.specs.List.{list_all}
-use Rattle.std.proofs.lemmas.Bool.{eqb-true, and_parts, or_cases, cases_Bool, leb-true, ltb-true, cases_eq, not-true, both_ways, eq-eqb}
+use Rattle.std.proofs.lemmas.Bool.{eqb-true, and_parts, or_cases, cases_Bool, leb-true, ltb-true, cases_eq, not-true, both_ways, eq-eqb, agree_below_at}
 use Rattle.x86_meaning.specs.declared.encoding.Row.{Row}
 use Rattle.x86_meaning.specs.Table.{table}
 use Rattle.x86_meaning.specs.Rows.{is_at, wants, wants_rex, has_modrm}
@@ -183,3 +183,62 @@ digit_is_free r n within none =
       | inl there ↦ absurd (both_ways (has_modrm r.form) none there)
       | inr free ↦ none_wants_any r.digit n free
     ]
+
+-- the row ends before a block of sixteen opcodes of a map, or is of the other map
+abbrev ends_before : Bool → ℕ → Row → Bool
+ends_before escaped block r = maps_differ r.escaped escaped || leb (r.opcode + r.span) (16 * block)
+
+-- such a row is for no opcode of the block
+before_is_none : (escaped : Bool) (o d : ℕ) (rex : Option ℕ) (r : Row) → ends_before escaped (o / 16) r ≡ true → matches escaped o d rex r ≡ false
+before_is_none escaped o d rex r h =
+    elim (cases_Bool (matches escaped o d rex r)) [
+      | inl passes ↦
+          let m = met escaped o d rex r passes in
+          elim (or_cases (maps_differ r.escaped escaped) (leb (r.opcode + r.span) (16 * (o / 16))) h) [
+            | inl differ ↦ absurd (maps_exclude escaped r.escaped escaped differ m.map (own_map escaped))
+            | inr before ↦ absurd (omega (arith, leb-true (r.opcode + r.span) (16 * (o / 16)) before, m.last))
+          ]
+      | inr fails ↦ fails
+    ]
+  where
+    own_map : (a : Bool) → cond a a (cond a false true) ≡ true
+    own_map true = refl
+    own_map false = refl
+
+-- such rows in front may be left out of the search
+pub find_behind : (escaped : Bool) (o d : ℕ) (rex : Option ℕ) (n : ℕ) (rows : List Row) → list_all (ends_before escaped (o / 16)) (take n rows) ≡ true → find (matches escaped o d rex) (drop n rows) ≡ find (matches escaped o d rex) rows
+find_behind escaped o d rex zero rows all = refl
+find_behind escaped o d rex (suc n) [] all = refl
+find_behind escaped o d rex (suc n) (x ∷ xs) all =
+    let tests = and_parts (ends_before escaped (o / 16) x) (list_all (ends_before escaped (o / 16)) (take n xs)) all in
+    rw (before_is_none escaped o d rex x tests.0) (find_behind escaped o d rex n xs tests.1)
+
+-- for each block of sixteen opcodes, of one byte and behind 0F, how many rows end before it
+abbrev pub starts : List ℕ
+starts =
+    0 ∷ 12 ∷ 24 ∷ 36 ∷ 48 ∷ 48 ∷ 50 ∷ 55 ∷ 57 ∷ 90 ∷ 95 ∷ 97 ∷ 99 ∷ 114 ∷ 134 ∷ 137
+    ∷ 155 ∷ 157 ∷ 158 ∷ 158 ∷ 158 ∷ 160 ∷ 160 ∷ 160 ∷ 160 ∷ 162 ∷ 164 ∷ 165 ∷ 169 ∷ 170 ∷ 170 ∷ 170
+    ∷ []
+
+abbrev pub start : Bool → ℕ → ℕ
+start escaped block = get_or starts (cond escaped 16 0 + block) 0
+
+abbrev skips : Bool → ℕ → Bool
+skips escaped block = list_all (ends_before escaped block) (take (start escaped block) table) && leb (start escaped block) 170
+
+starts_skip : (escaped : Bool) (block : ℕ) → block < 16 → skips escaped block ≡ true
+starts_skip true block lt = agree_below_at (skips true) (λ n. true) 16 block refl lt
+starts_skip false block lt = agree_below_at (skips false) (λ n. true) 16 block refl lt
+
+-- a start is a place in the table
+pub start_within : (escaped : Bool) (o : ℕ) → o < 256 → start escaped (o / 16) ≤ 170
+start_within escaped o lt =
+    let block : o / 16 < 16 = omega arith in
+    leb-true (start escaped (o / 16)) 170 (and_parts (list_all (ends_before escaped (o / 16)) (take (start escaped (o / 16)) table)) (leb (start escaped (o / 16)) 170) (starts_skip escaped (o / 16) block)).1
+
+-- the search may begin there
+pub found_behind : (escaped : Bool) (o d : ℕ) (rex : Option ℕ) → o < 256 → find (matches escaped o d rex) (drop (start escaped (o / 16)) table) ≡ find (matches escaped o d rex) table
+found_behind escaped o d rex lt =
+    let block : o / 16 < 16 = omega arith in
+    let tests = and_parts (list_all (ends_before escaped (o / 16)) (take (start escaped (o / 16)) table)) (leb (start escaped (o / 16)) 170) (starts_skip escaped (o / 16) block) in
+    find_behind escaped o d rex (start escaped (o / 16)) table tests.0

@@ -1,6 +1,7 @@
 ghost use Rattle.std.specs.Prelude.{◌≡◌, ◌≤◌, length, IfSome, List, ℕ, take, ◌++◌};
 ghost use Rattle.x86_meaning.specs.declared.instr.Instr.{Instr};
 ghost use Rattle.x86_meaning.specs.Spells.{Spells, SpellsFront};
+ghost use Rattle.x86_meaning.specs.Fits.{InForm};
 ghost use Rattle.x86_decode.specs.Reading.{Gives, fields_at, decode_at, instr_at, encoding};
 
 use crate::fields::{
@@ -12,7 +13,7 @@ use crate::prefixes::{are_allowed, count_byte, count_prefixes, has_size_prefix};
 use crate::reading::{digit_of, little_of, modrm_if, opcode_of, rex_of};
 use crate::table::row_of;
 use bits_core::Width;
-use x86_meaning::{Instr, ModRm, Op, Operand, Parts, Row};
+use x86_meaning::{Instr, ModRm, Op, Operand, Parts, Row, spelled_in_form};
 
 // What stands behind the prefixes and REX.
 #[derive(Clone, Copy)]
@@ -100,7 +101,9 @@ fn front_of(bytes: &[u8]) -> &[u8]
 pub fn decode(bytes: &[u8], addr: u64) -> Option<Instr>
     ensures found { IfSome result (λ i. (i.addr ≡ addr) × SpellsFront i bytes.now) }
     ensures only { (i : Instr) → i.addr ≡ addr → SpellsFront i bytes.now → result ≡ Some i }
+    ensures in_form { IfSome result InForm }
 {
+    spelled_in_form();
     decode_front(front_of(bytes), addr)
 }
 

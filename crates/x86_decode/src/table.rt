@@ -1,4 +1,5 @@
-ghost use Rattle.std.specs.Prelude.{◌≡◌, find};
+ghost use Rattle.std.specs.Prelude.{◌≡◌, ◌≤◌, ◌+◌, ◌/◌, ℕ, Option, if◌then◌else◌, length, drop, find};
+ghost use Rattle.x86_meaning.specs.Table.{table};
 ghost use Rattle.x86_meaning.specs.Rows.{is_at, wants};
 ghost use Rattle.x86_decode.specs.Reading.{matches, row_at};
 
@@ -262,9 +263,32 @@ fn find_row(rows: &[Row], escaped: bool, opcode: u8, digit: u8, rex: Option<u8>)
     None
 }
 
+// For each sixteen opcodes, those of one byte first and then those behind 0F, the place of the first row that may
+// be for one of them.
+static STARTS: [u8; 32] = [
+    0, 12, 24, 36, 48, 48, 50, 55, 57, 90, 95, 97, 99, 114, 134, 137, // of one byte
+    155, 157, 158, 158, 158, 160, 160, 160, 160, 162, 164, 165, 169, 170, 170, 170, // behind 0F
+];
+
+fn block_of(escaped: bool, opcode: u8) -> usize
+    ensures { result ≡ (if escaped then 16 else 0) + opcode / 16 }
+{
+    let block = opcode as usize / 16;
+    if escaped { 16 + block } else { block }
+}
+
+// How many rows stand before the first that may be for the opcode.
+fn start_of(escaped: bool, opcode: u8) -> usize
+    ensures within { result ≤ length table }
+    ensures skips { (digit : ℕ) (rex : Option ℕ) → find (matches escaped opcode digit rex) (drop result table) ≡ row_at escaped opcode digit rex }
+{
+    STARTS[block_of(escaped, opcode)] as usize
+}
+
 // The row that is for the opcode, the digit and the bits of REX.
 pub fn row_of(escaped: bool, opcode: u8, digit: u8, rex: Option<u8>) -> Option<Row>
     ensures { result ≡ row_at escaped opcode digit rex }
 {
-    find_row(&ROWS, escaped, opcode, digit, rex)
+    let (_, rows) = ROWS.split_at(start_of(escaped, opcode));
+    find_row(rows, escaped, opcode, digit, rex)
 }
