@@ -135,7 +135,6 @@ is_opcode_parts b h =
     let q = and_parts (not (is_rex b)) (not (eqb b 0x0f)) p.1 in
     (not-true (is_prefix b) p.0, not-true (is_rex b) q.0, not-true (eqb b 0x0f) q.1)
 
-
 -- what stands behind the prefixes and REX is read
 pub fields_again : (e : Encoding) (rest : List ℕ) → IsEncoding e → fields_at (record { prefixes = e.prefixes; rex = e.rex }) (behind_rex e ++ rest) ≡ Some (e, rest)
 unfolding fields_at row_at

@@ -93,7 +93,12 @@ pub record Front : Type 0 where
 -- the fields are put together
 abbrev pub encoding : Front → Row → ℕ → Option ModRm → ℕ → Encoding
 encoding front row opcode modrm imm = record {
-  prefixes = front.prefixes; rex = front.rex; row = row; opcode = opcode; modrm = modrm; imm = imm;
+  prefixes = front.prefixes;
+  rex = front.rex;
+  row = row;
+  opcode = opcode;
+  modrm = modrm;
+  imm = imm;
 }
 
 -- the fields may stand together, by the tests that the row makes

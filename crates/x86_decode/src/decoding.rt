@@ -38,7 +38,15 @@ fn fields_of<'a>(prefixes: &[u8], rex: Option<u8>, bytes: &'a [u8]) -> Option<(F
         && are_allowed(row.prefixes, memory, prefixes)
         && imm_fits(row.imm, width, imm)
     {
-        Some((Fields { row, opcode, modrm, imm }, rest))
+        Some((
+            Fields {
+                row,
+                opcode,
+                modrm,
+                imm,
+            },
+            rest,
+        ))
     } else {
         None
     }
@@ -94,7 +102,11 @@ fn front_of(bytes: &[u8]) -> &[u8]
     ensures value { result.now ≡ take 15 bytes.now }
     ensures short { length result.now ≤ 15 }
 {
-    if bytes.len() > 15 { &bytes[..15] } else { bytes }
+    if bytes.len() > 15 {
+        &bytes[..15]
+    } else {
+        bytes
+    }
 }
 
 /// The instruction at `addr` that a front of the bytes spells.

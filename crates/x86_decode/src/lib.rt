@@ -9,3 +9,6 @@ mod reading;
 mod table;
 
 pub use decoding::{decode, one_spelling};
+
+#[cfg(test)]
+mod tests;
