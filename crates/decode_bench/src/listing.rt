@@ -11,7 +11,10 @@ pub struct Count {
 }
 
 pub fn count_instructions(code: &[u8]) -> Count {
-    let mut count = Count { instructions: 0, others: 0 };
+    let mut count = Count {
+        instructions: 0,
+        others: 0,
+    };
     let mut next = 0;
     for at in 0..code.len() {
         if at == next {

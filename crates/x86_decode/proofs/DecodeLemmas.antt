@@ -14,10 +14,10 @@ use Rattle.x86_meaning.specs.declared.encoding.Row.{Row}
 use Rattle.x86_meaning.specs.declared.encoding.ModRm.{ModRm}
 use Rattle.x86_meaning.specs.Fields.{FitsModRm}
 use Rattle.x86_meaning.specs.Sizes.{is_length, imm_len}
-use Rattle.x86_meaning.specs.Operands.{FitsParts}
+use Rattle.x86_meaning.specs.Instructions.{FitsParts}
 use Rattle.x86_meaning.specs.Spells.{Encoding, IsEncoding, IsModRmOf, bytes_of, width, imm_size, meaning, endbr64, endbr64_at, IsEncoded, Spells, IsSpelled, SpellsFront}
 use Rattle.x86_meaning.specs.Fits.{InForm}
-use Rattle.x86_decode.specs.Reading.{prefix_len, rex_at, escaped_at, opcode_at, digit_at, row_at, Front, fields_at, encoding_at, is_endbr64, decode_at, instr_at}
+use Rattle.x86_decode.specs.Reading.{prefix_len, rex_at, escaped_at, opcode_at, digit_at, row_at, fields_at, encoding_at, is_endbr64, decode_at, instr_at}
 use Rattle.x86_decode.proofs.ByteLemmas.{IsBytes, bytes_taken, both_passed, same_given}
 use Rattle.x86_decode.proofs.EncodingLemmas.{encoding_takes, encoding_again}
 

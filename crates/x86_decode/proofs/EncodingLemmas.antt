@@ -1,5 +1,5 @@
 -- An encoding that is read stands in front of the bytes, and one that stands there is read, whatever follows it.
-use Rattle.std.proofs.Common.{◌≡◌, ℕ, ◌+◌, ◌<◌, Bool, true, false, cond, ◌&&◌, not, eqb, leb, ltb, List, ◌∷◌, ◌++◌, length, take, drop, Option, Some, None, refl, sym, ap, subst, ◌∙◌, append_assoc}
+use Rattle.std.proofs.Common.{◌≡◌, ℕ, ◌+◌, ◌<◌, Bool, true, false, cond, ◌&&◌, not, eqb, List, ◌∷◌, ◌++◌, length, take, drop, Option, Some, None, refl, sym, ap, subst, ◌∙◌, append_assoc}
 use Rattle.std.specs.Prelude.{IfSome}
 use Rattle.std.specs.List.{AllByRecursion, prefix_len as front_len}
 use Rattle.std.proofs.lemmas.Bool.{and_parts, and_from, not-true, agree_below_at}
@@ -12,10 +12,10 @@ use Rattle.x86_meaning.specs.Rows.{is_at, wants, wants_rex, has_modrm, fits_oper
 use Rattle.x86_meaning.specs.Prefixes.{is_prefix, allows}
 use Rattle.x86_meaning.specs.Sizes.{fits_imm}
 use Rattle.x86_meaning.specs.Spells.{Encoding, IsEncoding, IsModRmOf, width, imm_size, bytes_of}
-use Rattle.x86_decode.specs.Reading.{◌>>=◌, prefix_len, rex_at, opcode_at, digit_at, matches, row_at, little_at, modrm_for, Front, encoding, passes, size_at, fields_at, encoding_at}
+use Rattle.x86_decode.specs.Reading.{prefix_len, rex_at, opcode_at, digit_at, matches, row_at, little_at, modrm_for, Front, encoding, passes, size_at, fields_at, encoding_at}
 use Rattle.x86_decode.proofs.ByteLemmas.{IsBytes, bytes_dropped, both_passed, test_passed, Takes, takes_both, little_takes, little_again}
 use Rattle.x86_decode.proofs.StageLemmas.{ModRmStands, modrm_for_takes, modrm_for_again, digit_again, opcode_takes, opcode_again, is_rex, rex_takes, rex_again_some, rex_again_none, prefixes_take, prefixes_again}
-use Rattle.x86_decode.proofs.RowLemmas.{find_takes, row_is_found, is_map, Met, met, is_opcode, opcode_begins, digit_is_free}
+use Rattle.x86_decode.proofs.RowLemmas.{find_takes, row_is_found, is_map, met, is_opcode, opcode_begins, digit_is_free}
 
 -- the bytes behind the prefixes and REX
 abbrev pub behind_rex : Encoding → List ℕ
@@ -96,7 +96,7 @@ fields_take front bytes x fits all low e =
       imm = i_takes.1;
       count = tests.count;
     } in
-    subst (λ (y : Read). Stands front bytes y) test.1 (record { takes = taken; fits = good; prefixes_are = refl; rex_is = refl })
+    subst (λ (y : Read). Stands front bytes y) test.1 (record { takes = taken; fits = good; prefixes_are = refl {a = front.prefixes}; rex_is = refl {a = front.rex} })
 
 -- an encoding that is read stands in front
 pub encoding_takes : (bytes : List ℕ) (x : Read) → IsBytes bytes → encoding_at bytes ≡ Some x → Takes bytes (bytes_of x.0) x.1 × IsEncoding x.0

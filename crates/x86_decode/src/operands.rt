@@ -2,7 +2,8 @@ ghost use Rattle.std.specs.Prelude.{◌≡◌, ◌<◌, ◌^◌, ◌*◌, ◌+�
 ghost use Rattle.std.specs.Option.{ForSome};
 ghost use Rattle.x86_meaning.specs.Fields.{base_field, is_baseless, disp_len, FitsSib, FitsModRm};
 ghost use Rattle.x86_meaning.specs.Sizes.{is_length, sign_extend};
-ghost use Rattle.x86_meaning.specs.Operands.{register, base_of, index_of, scale_of, disp_of, place, rm_operand, reg_operand, opcode_operand, imm_number, factor, target, destination, source, condition, instruction, FitsParts};
+ghost use Rattle.x86_meaning.specs.Operands.{register, base_of, index_of, scale_of, disp_of, place, rm_operand, reg_operand, opcode_operand, imm_number, target};
+ghost use Rattle.x86_meaning.specs.Instructions.{factor, destination, source, condition, instruction, FitsParts};
 
 use crate::fields::rex_bits;
 use crate::reading::disp_length;

@@ -542,7 +542,7 @@ fn decodes_each(rt: &impl Abort, cases: &[Case]) {
     for case in cases {
         let bytes = case.bytes;
         let want = Instr {
-            len: bytes.len() as u8,
+            len: (bytes.len() % 16) as u8,
             ..case.instr
         };
         assert_eq!(rt; decode(bytes, AT), Some(want), "at {bytes:?}");

@@ -1,5 +1,5 @@
-//! The instructions of the supported part of x86-64: their fields, and in specs/ which bytes spell which
-//! instruction. No call takes memory.
+//! The instructions of the supported part of x86-64: their fields, and in specs/ which bytes spell
+//! which instruction.
 #![tactic(auto)]
 
 mod encoding;
