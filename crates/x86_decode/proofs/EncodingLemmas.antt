@@ -96,7 +96,7 @@ fields_take front bytes x fits all low e =
       imm = i_takes.1;
       count = tests.count;
     } in
-    subst (λ (y : Read). Stands front bytes y) test.1 (record { takes = taken; fits = good; prefixes_are = refl {a = front.prefixes}; rex_is = refl {a = front.rex} })
+    subst (λ (y : Read). Stands front bytes y) {x = made} test.1 (record { takes = taken; fits = good; prefixes_are = refl {a = front.prefixes}; rex_is = refl {a = front.rex} })
 
 -- an encoding that is read stands in front
 pub encoding_takes : (bytes : List ℕ) (x : Read) → IsBytes bytes → encoding_at bytes ≡ Some x → Takes bytes (bytes_of x.0) x.1 × IsEncoding x.0

@@ -1,4 +1,4 @@
-ghost use Rattle.std.specs.Prelude.{◌≡◌, ◌≤◌, length, IfSome, List, ℕ, take, ◌++◌};
+ghost use Rattle.std.specs.Prelude.{◌≡◌, ◌≤◌, length, IfSome, None, ◌↔◌, List, ℕ, take, ◌++◌};
 ghost use Rattle.x86_meaning.specs.declared.instr.Instr.{Instr};
 ghost use Rattle.x86_meaning.specs.Spells.{Spells, SpellsFront};
 ghost use Rattle.x86_meaning.specs.Fits.{InForm};
@@ -113,6 +113,7 @@ fn front_of(bytes: &[u8]) -> &[u8]
 pub fn decode(bytes: &[u8], addr: u64) -> Option<Instr>
     ensures found { IfSome result (λ i. (i.addr ≡ addr) × SpellsFront i bytes.now) }
     ensures only { (i : Instr) → i.addr ≡ addr → SpellsFront i bytes.now → result ≡ Some i }
+    ensures none { (result ≡ None) ↔ ((i : Instr) → i.addr ≡ addr → SpellsFront i bytes.now → ⊥) }
     ensures in_form { IfSome result InForm }
 {
     spelled_in_form();
