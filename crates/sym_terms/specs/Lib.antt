@@ -1,0 +1,7 @@
+pub mod Plain
+pub mod View
+pub mod Nodes
+pub mod Falls
+pub mod Order
+pub mod Codes
+pub mod Mentions

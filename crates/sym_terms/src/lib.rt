@@ -1,0 +1,12 @@
+//! Symbolic terms: sums of atoms with coefficients, modulo 2^64, in a normal form that decides what is
+//! equal. Terms are made by calls alone, keep the normal form at every level, and have at most 32 nodes.
+
+#![tactic(auto)]
+
+mod kinds;
+mod memory;
+mod sum;
+
+pub use kinds::{Fit, Pair, Sym};
+pub use memory::NoMemory;
+pub use sum::{Atom, Sum};
