@@ -1,1 +1,5 @@
 pub mod PieceLemmas
+pub mod NumberLemmas
+pub mod MergeLemmas
+pub mod SumLemmas
+pub mod AtomLemmas

@@ -9,6 +9,8 @@ use Rattle.sym_terms.specs.declared.sum.Atom.{Atom}
 use Rattle.sym_terms.specs.Plain.{sum, none, more, constant_alone}
 use Rattle.sym_terms.specs.Order.{pieces_cmp, atom_cmp}
 use Rattle.sym_terms.specs.View.{plain, pieces}
+use Rattle.sym_terms.specs.declared.kinds.Fit.{Fit}
+use Rattle.sym_terms.specs.Normal.{stays}
 
 -- the pieces from an index on are the one there and those after it
 pub pieces_at : (xs : List (Atom × ℕ)) (i : ℕ) (x : Atom × ℕ)
@@ -78,3 +80,9 @@ module _ (xs ys : List (Atom × ℕ)) (i : ℕ) (x y : Atom × ℕ) (at_x : x �
   pub deferred_at : (o : Ordering) → o ≡ here → is_ne o ≡ false
       → pieces_cmp (pieces (drop (i + 1) xs)) (pieces (drop (i + 1) ys)) ≡ pieces_cmp (pieces (drop i xs)) (pieces (drop i ys))
   deferred_at o e h = sym (defers (atom_cmp (plain x.0) (plain y.0)) (nat_cmp x.1 y.1) _ (ap is_ne (sym e) ∙ h)) ∙ sym heads
+
+-- two pieces don't stay under a fit
+pub two_pieces : (f : Fit) (c : ℕ) (xs : List (Atom × ℕ)) → 2 ≤ length xs → false ≡ stays f (sum c (pieces xs))
+two_pieces f c [] h = refl
+two_pieces f c (x ∷ []) h = absurd (omega arith)
+two_pieces f c (x ∷ y ∷ ys) h = refl

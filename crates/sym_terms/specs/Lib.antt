@@ -5,3 +5,7 @@ pub mod Falls
 pub mod Order
 pub mod Codes
 pub mod Mentions
+pub mod Numbers
+pub mod Value
+pub mod Normal
+pub mod Loose

@@ -3,8 +3,11 @@
 
 #![tactic(auto)]
 
+mod atoms;
 mod kinds;
+mod linear;
 mod memory;
+mod numbers;
 mod sum;
 
 pub use kinds::{Fit, Pair, Sym};
