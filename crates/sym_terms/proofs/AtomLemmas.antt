@@ -25,7 +25,7 @@ use Rattle.sym_terms.proofs.NumberLemmas.{fit_number_below, fit_number_same, fit
 pub alone_normal : (a : PlainAtom) → IsNormalAtom a → IsNormal (alone a)
 alone_normal a n = (omega arith, (n, omega arith, omega arith, tt, tt))
 
-zero_normal : IsNormal (sum 0 none)
+pub zero_normal : IsNormal (sum 0 none)
 zero_normal = (omega arith, tt)
 
 -- ---- fits
@@ -121,7 +121,7 @@ pair_nodes p a b = pair_by_nodes p (constant_alone a) (constant_alone b) a b
 -- ---- values
 
 -- orders that are Equal
-equal_from : (o : Ordering) → is_eq o ≡ true → o ≡ Equal
+pub equal_from : (o : Ordering) → is_eq o ≡ true → o ≡ Equal
 equal_from Less e = absurd (cc)
 equal_from Equal e = refl
 equal_from Greater e = absurd (cc)

@@ -3,3 +3,5 @@ pub mod NumberLemmas
 pub mod MergeLemmas
 pub mod SumLemmas
 pub mod AtomLemmas
+pub mod OffsetLemmas
+pub mod LooseLemmas

@@ -9,7 +9,9 @@ mod linear;
 mod memory;
 mod numbers;
 mod sum;
+mod term;
 
 pub use kinds::{Fit, Pair, Sym};
 pub use memory::NoMemory;
 pub use sum::{Atom, Sum};
+pub use term::Term;
