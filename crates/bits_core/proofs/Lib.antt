@@ -1,1 +1,4 @@
 pub mod LowBitsLemmas
+pub mod IntegerLemmas
+pub mod ShiftLemmas
+pub mod WideLemmas
