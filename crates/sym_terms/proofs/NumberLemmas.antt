@@ -1,27 +1,17 @@
 -- Numbers of fits and pairs: how large they are, and which of them a fit leaves as they are.
-use Rattle.std.proofs.Common.{◌≡◌, ℕ, ◌+◌, ◌*◌, ◌-◌, ◌/◌, ◌%◌, ◌^◌, ◌<◌, ◌≤◌, true, false, nat_lt, if◌then◌else◌, sym, ap, ◌∙◌, arith}
-use Rattle.std.proofs.lemmas.Bool.Decides.{nat_tests}
-use Rattle.std.proofs.lemmas.Nat.{and_le_l, or_lt, xor_lt, pow-add}
-use Rattle.std.proofs.lemmas.Nat.Bits.{ones_shr}
-use Rattle.std.proofs.Math.Nat.{div-le_self, div-lt_iff_lt-mul}
-use Rattle.std.proofs.Math.Pow.{pow_mono}
-use Rattle.bits_core.specs.declared.width.Width.TheVariants.{W8, W16, W32}
+use Rattle.std.proofs.Common.{◌≡◌, ℕ, ◌*◌, ◌/◌, ◌%◌, ◌^◌, ◌<◌, ℤ, pos, negsuc, arith}
+use Rattle.std.proofs.lemmas.Nat.{and_le_l, or_lt, xor_lt}
+use Rattle.std.proofs.Math.Nat.{div-le_self}
+use Rattle.bits_core.specs.declared.width.Width.TheVariants.{W8, W16, W32, W64}
+use Rattle.bits_core.specs.LowBits.{cut_of}
+use Rattle.bits_core.specs.Integers.{residue_of}
 use Rattle.bits_core.proofs.LowBitsLemmas.{cut_below, cut_below_64, cut_same, sext_below, sext_same}
 use Rattle.sym_terms.specs.declared.kinds.Fit.{Fit}
 use Rattle.sym_terms.specs.declared.kinds.Fit.TheVariants.{Zx8, Zx16, Zx32, Sx8, Sx16, Sx32}
 use Rattle.sym_terms.specs.declared.kinds.Pair.{Pair}
 use Rattle.sym_terms.specs.declared.kinds.Pair.TheVariants.{And, Or, Xor, Mul, Shr, Sar}
-use Rattle.sym_terms.specs.Numbers.{fit_number, sar_number, pair_number}
+use Rattle.sym_terms.specs.Numbers.{fit_number, pair_number}
 use Rattle.sym_terms.specs.Normal.{fit_bits, kept_bits}
-
--- a shift of all ones, complemented, is the copies of the sign
-pub shifted_by_sign : (x by : ℕ) → by < 64 → 2 ^ 63 ≤ x → x / 2 ^ by + (2 ^ 64 - 1 - (2 ^ 64 - 1) / 2 ^ by) ≡ sar_number x by
-shifted_by_sign x by h big =
-    let some : 1 ≤ 2 ^ (64 - by) = pow_mono {i = 0} {j = 64 - by} (omega arith) in
-    let ones : (2 ^ 64 - 1) / 2 ^ by ≡ 2 ^ (64 - by) - 1 = ones_shr 64 by (omega arith) in
-    let negative : nat_lt x (2 ^ 63) ≡ false = grind (arith, nat_tests) in
-    let copies : x / 2 ^ by + (2 ^ 64 - 1 - (2 ^ 64 - 1) / 2 ^ by) ≡ x / 2 ^ by + (2 ^ 64 - 2 ^ (64 - by)) = omega arith in
-    copies ∙ ap (λ b. if b then x / 2 ^ by else x / 2 ^ by + (2 ^ 64 - 2 ^ (64 - by))) (sym negative)
 
 -- a fit has 64 bits
 pub fit_number_below : (f : Fit) (n : ℕ) → fit_number f n < 2 ^ 64
@@ -50,22 +40,10 @@ fit_number_same Sx8 n h = sext_same W8 n h
 fit_number_same Sx16 n h = sext_same W16 n h
 fit_number_same Sx32 n h = sext_same W32 n h
 
-shr_below : (x by : ℕ) → x < 2 ^ 64 → by < 64 → x / 2 ^ by < 2 ^ (64 - by)
-shr_below x by h i =
-    let some : 0 < 2 ^ by = pow_mono {i = 0} {j = by} (omega arith) in
-    let whole : 64 - by + by ≡ 64 = omega arith in
-    let product : 2 ^ (64 - by) * 2 ^ by ≡ 2 ^ 64 = sym (pow-add 2 (64 - by) by) ∙ ap (λ n. 2 ^ n) whole in
-    (div-lt_iff_lt-mul {x = x} some).1 (rw product h)
-
-sar_below : (x by : ℕ) → x < 2 ^ 64 → by < 64 → sar_number x by < 2 ^ 64
-sar_below x by h i =
-    let some : 1 ≤ 2 ^ (64 - by) = pow_mono {i = 0} {j = 64 - by} (omega arith) in
-    let most : 2 ^ (64 - by) ≤ 2 ^ 64 = pow_mono {i = 64 - by} {j = 64} (omega arith) in
-    let below : x / 2 ^ by < 2 ^ (64 - by) = shr_below x by h i in
-    elim (nat_lt x (2 ^ 63)) as (λ b. (if b then x / 2 ^ by else x / 2 ^ by + (2 ^ 64 - 2 ^ (64 - by))) < 2 ^ 64) [
-      | true ↦ omega arith
-      | false ↦ omega arith
-    ]
+-- the residue of an integer has 64 bits
+residue_below : (n : ℤ) → residue_of W64 n < 2 ^ 64
+residue_below (pos n) = omega arith
+residue_below (negsuc n) = omega arith
 
 -- a pair of numbers of 64 bits has 64 bits
 pub pair_number_below : (p : Pair) (x y : ℕ) → x < 2 ^ 64 → y < 2 ^ 64 → pair_number p x y < 2 ^ 64
@@ -73,5 +51,5 @@ pair_number_below And x y h i = let e = and_le_l x y in omega arith
 pair_number_below Or x y h i = or_lt 64 x y h i
 pair_number_below Xor x y h i = xor_lt 64 x y h i
 pair_number_below Mul x y h i = omega arith
-pair_number_below Shr x y h i = let e = div-le_self x (2 ^ (y % 64)) in omega arith
-pair_number_below Sar x y h i = sar_below x (y % 64) h (omega arith)
+pair_number_below Shr x y h i = let e = div-le_self (cut_of W64 x) (2 ^ (y % 64)) in omega (arith, cut_below_64 W64 x)
+pair_number_below Sar x y h i = residue_below _

@@ -1,7 +1,9 @@
 -- What fits and pairs make of numbers of 64 bits (Intel SDM volume 2: MOVZX, MOVSX, AND, OR, XOR, SHR, SAR).
-use Rattle.std.specs.Prelude.{ℕ, ◌+◌, ◌-◌, ◌*◌, ◌/◌, ◌%◌, ◌^◌, nat_lt, if◌then◌else◌, bit_and, bit_or, bit_xor}
-use Rattle.bits_core.specs.declared.width.Width.TheVariants.{W8, W16, W32}
+use Rattle.std.specs.Prelude.{ℕ, ◌*◌, ◌%◌, ◌^◌, bit_and, bit_or, bit_xor}
+use Rattle.bits_core.specs.declared.width.Width.TheVariants.{W8, W16, W32, W64}
 use Rattle.bits_core.specs.LowBits.{cut_of, sext_of}
+use Rattle.bits_core.specs.declared.operations.Shift.TheVariants.{Shr as shift_right, Sar as shift_right_by_sign}
+use Rattle.bits_core.specs.Shifts.{shift_of}
 use Rattle.sym_terms.specs.declared.kinds.Fit.{Fit}
 use Rattle.sym_terms.specs.declared.kinds.Fit.TheVariants.{Zx8, Zx16, Zx32, Sx8, Sx16, Sx32}
 use Rattle.sym_terms.specs.declared.kinds.Pair.{Pair}
@@ -16,15 +18,11 @@ fit_number Sx8 n = sext_of W8 n
 fit_number Sx16 n = sext_of W16 n
 fit_number Sx32 n = sext_of W32 n
 
--- a shift to the right by less than 64 bits that brings in copies of the sign
-abbrev pub sar_number : ℕ → ℕ → ℕ
-sar_number x by = if nat_lt x (2 ^ 63) then x / 2 ^ by else x / 2 ^ by + (2 ^ 64 - 2 ^ (64 - by))
-
 -- the operation on two numbers below 2^64; shifts are by the second one modulo 64
 abbrev pub pair_number : Pair → ℕ → ℕ → ℕ
 pair_number And x y = bit_and x y
 pair_number Or x y = bit_or x y
 pair_number Xor x y = bit_xor x y
 pair_number Mul x y = x * y % 2 ^ 64
-pair_number Shr x y = x / 2 ^ (y % 64)
-pair_number Sar x y = sar_number x (y % 64)
+pair_number Shr x y = shift_of shift_right W64 x y
+pair_number Sar x y = shift_of shift_right_by_sign W64 x y

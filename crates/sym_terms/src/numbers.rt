@@ -1,10 +1,8 @@
-ghost use Rattle.std.specs.Prelude.{◌≡◌, ◌<◌};
-ghost use Rattle.sym_terms.specs.Numbers.{fit_number as fits_to, sar_number, pair_number as pairs_to};
+ghost use Rattle.std.specs.Prelude.{◌≡◌};
+ghost use Rattle.sym_terms.specs.Numbers.{fit_number as fits_to, pair_number as pairs_to};
 
 use crate::kinds::{Fit, Pair};
-use bits_core::{Width, cut, sext};
-
-const SIGN: u64 = 1 << 63;
+use bits_core::{Shift, Width, cut, sext, shift};
 
 pub fn fit_number(fit: Fit, n: u64) -> u64
     ensures { result ≡ fits_to fit n }
@@ -27,18 +25,7 @@ pub fn pair_number(pair: Pair, x: u64, y: u64) -> u64
         Pair::Or => x | y,
         Pair::Xor => x ^ y,
         Pair::Mul => x.wrapping_mul(y),
-        Pair::Shr => x >> (y % 64),
-        Pair::Sar => shift_by_sign(x, y % 64),
-    }
-}
-
-fn shift_by_sign(x: u64, by: u64) -> u64
-    requires { by < 64 }
-    ensures { result ≡ sar_number x by }
-{
-    if x < SIGN {
-        x >> by
-    } else {
-        (x >> by) + !(u64::MAX >> by)
+        Pair::Shr => shift(Shift::Shr, Width::W64, x, (y % 64) as u8),
+        Pair::Sar => shift(Shift::Sar, Width::W64, x, (y % 64) as u8),
     }
 }
