@@ -127,7 +127,7 @@ equal_from Equal e = refl
 equal_from Greater e = absurd (cc)
 
 module _ (u : Valuation) (range : IsInRange u) where
-  value_below : (a : PlainSum) → value u a < 2 ^ 64
+  pub value_below : (a : PlainSum) → value u a < 2 ^ 64
   value_below (sum c xs) = mod-lt (c + value_of_pieces u xs) (omega arith)
 
   symbol_below : (s : Sym) → IsSymbol s → value_of_symbol u s < 2 ^ 64
@@ -209,7 +209,8 @@ module _ (u : Valuation) (range : IsInRange u) where
   pair_alone_value Shr a b = paired_value Shr a b
   pair_alone_value Sar a b = paired_value Sar a b
 
-  times_value : (x : ℕ) (a : PlainSum) → value u (times x a) ≡ x * value u a % 2 ^ 64
+  -- a multiple has the multiple of the value
+  pub times_value : (x : ℕ) (a : PlainSum) → value u (times x a) ≡ x * value u a % 2 ^ 64
   times_value x a = 
       plus_times_value u (sum 0 none) x a ∙ ap (λ n. n % 2 ^ 64) (let e : 0 + x * value u a ≡ x * value u a = omega arith in e)
 

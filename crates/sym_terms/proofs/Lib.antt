@@ -5,3 +5,5 @@ pub mod SumLemmas
 pub mod AtomLemmas
 pub mod OffsetLemmas
 pub mod LooseLemmas
+pub mod CoefficientLemmas
+pub mod LawLemmas

@@ -89,7 +89,7 @@ module _ (u : Valuation) where
   plus_times_value (sum c xs) m (sum d ys) =
       constants c m d (value_of_pieces u xs) (value_of_pieces u ys) _ (2 ^ 64) (plus_times_pieces_value xs m ys)
 
-before_trans : (c b : PlainAtom) (ys : Pieces) → atom_cmp c b ≡ Less → IsBefore b ys → IsBefore c ys
+pub before_trans : (c b : PlainAtom) (ys : Pieces) → atom_cmp c b ≡ Less → IsBefore b ys → IsBefore c ys
 before_trans c b none e h = tt
 before_trans c b (more d l ys) e h = atom_total.trans c b d e h
 
@@ -108,7 +108,7 @@ before_joined c a zero xs e h = before_trans c a xs e h
 before_joined c a (suc k) xs e h = e
 
 -- an atom before both lists is before their sum
-before_plus_times : (c : PlainAtom) (xs : Pieces) (m : ℕ) (ys : Pieces)
+pub before_plus_times : (c : PlainAtom) (xs : Pieces) (m : ℕ) (ys : Pieces)
     → AreNormal xs → AreNormal ys → IsBefore c xs → IsBefore c ys → IsBefore c (plus_times_pieces xs m ys)
 before_plus_times c none m none nx ny hx hy = tt
 before_plus_times c none m (more b l ys) nx ny hx hy =
@@ -130,7 +130,7 @@ before_plus_times c (more a k xs) m (more b l ys) nx ny hx hy =
           (before_plus_times b (more a k xs) m ys nx ny.4 (turned a b e) ny.3)
     ]) refl
 
-plus_times_pieces_normal : (xs : Pieces) (m : ℕ) (ys : Pieces) → AreNormal xs → AreNormal ys → AreNormal (plus_times_pieces xs m ys)
+pub plus_times_pieces_normal : (xs : Pieces) (m : ℕ) (ys : Pieces) → AreNormal xs → AreNormal ys → AreNormal (plus_times_pieces xs m ys)
 plus_times_pieces_normal none m none nx ny = tt
 plus_times_pieces_normal none m (more b l ys) nx ny =
     joined_normal b (m * l % 2 ^ 64) (plus_times_pieces none m ys) ny.0 (below_mod (m * l))

@@ -9,3 +9,4 @@ pub mod Numbers
 pub mod Value
 pub mod Normal
 pub mod Loose
+pub mod Laws

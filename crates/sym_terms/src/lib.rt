@@ -5,6 +5,7 @@
 
 mod atoms;
 mod kinds;
+mod laws;
 mod linear;
 mod memory;
 mod numbers;
@@ -12,6 +13,7 @@ mod sum;
 mod term;
 
 pub use kinds::{Fit, Pair, Sym};
+pub use laws::term_laws;
 pub use memory::NoMemory;
 pub use sum::{Atom, Sum};
 pub use term::Term;

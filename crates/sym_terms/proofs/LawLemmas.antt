@@ -1,0 +1,29 @@
+-- The laws of order and value, from the lemmas on each operation.
+use Rattle.std.proofs.Common.{◌≡◌, ℕ, ◌+◌, ◌-◌, ◌*◌, ◌%◌, ◌^◌, ◌<◌, ◌↔◌, refl, sym, ap, ◌∙◌, arith}
+use Rattle.std.specs.declared.cmp.Ordering.TheVariants.{Equal}
+use Rattle.std.specs.Cmp.{tied_itself}
+use Rattle.sym_terms.specs.Plain.{PlainSum}
+use Rattle.sym_terms.specs.Order.{sum_cmp}
+use Rattle.sym_terms.specs.Codes.{sum_same, sum_total}
+use Rattle.sym_terms.specs.Value.{Valuation, IsInRange, value}
+use Rattle.sym_terms.specs.Normal.{plus, minus}
+use Rattle.sym_terms.specs.Loose.{normal, HasSymbols}
+use Rattle.sym_terms.proofs.SumLemmas.{plus_times_value}
+use Rattle.sym_terms.proofs.AtomLemmas.{value_below}
+use Rattle.sym_terms.proofs.LooseLemmas.{normal_value}
+
+pub equal_same : (a b : PlainSum) → (sum_cmp a b ≡ Equal) ↔ (a ≡ b)
+equal_same a b = (sum_same a b, λ e. ap (sum_cmp a) (sym e) ∙ tied_itself sum_total a)
+
+negated : (v w : ℕ) → w < 2 ^ 64 → (v + (2 ^ 64 - 1) * w) % 2 ^ 64 ≡ (v + (2 ^ 64 - w)) % 2 ^ 64
+negated v w h = omega arith
+
+module _ (u : Valuation) (range : IsInRange u) where
+  pub plus_value : (a b : PlainSum) → value u (plus a b) ≡ (value u a + value u b) % 2 ^ 64
+  plus_value a b = plus_times_value u a 1 b ∙ ap (λ n. (value u a + n) % 2 ^ 64) (let e : 1 * value u b ≡ value u b = omega arith in e)
+
+  pub minus_value : (a b : PlainSum) → value u (minus a b) ≡ (value u a + (2 ^ 64 - value u b)) % 2 ^ 64
+  minus_value a b = plus_times_value u a (2 ^ 64 - 1) b ∙ negated (value u a) (value u b) (value_below u range b)
+
+  pub one_value : (a b : PlainSum) → HasSymbols a → HasSymbols b → normal a ≡ normal b → value u a ≡ value u b
+  one_value a b h i e = sym (normal_value u range a h) ∙ ap (value u) e ∙ normal_value u range b i
