@@ -160,7 +160,7 @@ module _ (u : Valuation) (range : IsInRange u) where
   pub number_value : (n : ℕ) → n < 2 ^ 64 → value u (sum n none) ≡ n
   number_value n h = let e : n + 0 ≡ n = omega arith in rw e (mod-eq_of_lt h)
 
-  constant_value : (a : PlainSum) (x : ℕ) → IsNormal a → constant_alone a ≡ Some x → value u a ≡ x
+  pub constant_value : (a : PlainSum) (x : ℕ) → IsNormal a → constant_alone a ≡ Some x → value u a ≡ x
   constant_value (sum c none) x n e = let f : c ≡ x = cc in number_value c n.0 ∙ f
   constant_value (sum c (more b k xs)) x n e = absurd (cc)
 

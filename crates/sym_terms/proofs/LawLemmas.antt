@@ -1,15 +1,15 @@
 -- The laws of order and value, from the lemmas on each operation.
-use Rattle.std.proofs.Common.{◌≡◌, ℕ, ◌+◌, ◌-◌, ◌*◌, ◌%◌, ◌^◌, ◌<◌, ◌↔◌, refl, sym, ap, ◌∙◌, arith}
+use Rattle.std.proofs.Common.{◌≡◌, ℕ, ◌+◌, ◌-◌, ◌*◌, ◌%◌, ◌^◌, ◌<◌, ◌↔◌, Some, sym, ap, ◌∙◌, arith}
 use Rattle.std.specs.declared.cmp.Ordering.TheVariants.{Equal}
 use Rattle.std.specs.Cmp.{tied_itself}
-use Rattle.sym_terms.specs.Plain.{PlainSum}
+use Rattle.sym_terms.specs.Plain.{PlainSum, constant_alone}
 use Rattle.sym_terms.specs.Order.{sum_cmp}
 use Rattle.sym_terms.specs.Codes.{sum_same, sum_total}
 use Rattle.sym_terms.specs.Value.{Valuation, IsInRange, value}
-use Rattle.sym_terms.specs.Normal.{plus, minus}
+use Rattle.sym_terms.specs.Normal.{plus, minus, IsNormal}
 use Rattle.sym_terms.specs.Loose.{normal, HasSymbols}
-use Rattle.sym_terms.proofs.SumLemmas.{plus_times_value}
-use Rattle.sym_terms.proofs.AtomLemmas.{value_below}
+use Rattle.sym_terms.proofs.SumLemmas.{plus_times_value, plus_times_normal}
+use Rattle.sym_terms.proofs.AtomLemmas.{value_below, constant_value}
 use Rattle.sym_terms.proofs.LooseLemmas.{normal_value}
 
 pub equal_same : (a b : PlainSum) → (sum_cmp a b ≡ Equal) ↔ (a ≡ b)
@@ -27,3 +27,10 @@ module _ (u : Valuation) (range : IsInRange u) where
 
   pub one_value : (a b : PlainSum) → HasSymbols a → HasSymbols b → normal a ≡ normal b → value u a ≡ value u b
   one_value a b h i e = sym (normal_value u range a h) ∙ ap (value u) e ∙ normal_value u range b i
+
+  pub offset_value : (a b : PlainSum) (d : ℕ) → IsNormal a → IsNormal b → constant_alone (minus a b) ≡ Some d → value u a ≡ (value u b + d) % 2 ^ 64
+  offset_value a b d na nb e =
+      let difference : (value u a + (2 ^ 64 - value u b)) % 2 ^ 64 ≡ d = sym (minus_value a b) ∙ constant_value u range (minus a b) d (plus_times_normal a (2 ^ 64 - 1) b na nb) e in
+      let a_below = value_below u range a in
+      let b_below = value_below u range b in
+      omega arith

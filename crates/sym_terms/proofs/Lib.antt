@@ -6,4 +6,5 @@ pub mod AtomLemmas
 pub mod OffsetLemmas
 pub mod LooseLemmas
 pub mod CoefficientLemmas
+pub mod MentionLemmas
 pub mod LawLemmas

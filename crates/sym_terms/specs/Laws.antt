@@ -1,13 +1,14 @@
 -- What holds of the order, the normal form and the value of terms.
-use Rattle.std.specs.Prelude.{◌≡◌, ◌↔◌, ℕ, ◌+◌, ◌-◌, ◌*◌, ◌%◌, ◌^◌, ◌<◌, if◌then◌else◌}
+use Rattle.std.specs.Prelude.{◌≡◌, ◌↔◌, ℕ, ◌+◌, ◌-◌, ◌*◌, ◌%◌, ◌^◌, ◌<◌, true, if◌then◌else◌, Some}
 use Rattle.std.specs.declared.cmp.Ordering.TheVariants.{Equal}
 use Rattle.std.specs.Ordering.{is_eq}
 use Rattle.std.specs.Cmp.{IsTotalOrder}
 use Rattle.sym_terms.specs.declared.kinds.Sym.{Sym}
 use Rattle.sym_terms.specs.declared.kinds.Fit.{Fit}
 use Rattle.sym_terms.specs.declared.kinds.Pair.{Pair}
-use Rattle.sym_terms.specs.Plain.{PlainSum, sum, Pieces, none, more, PlainAtom, symbol, alone, IsSymbol}
+use Rattle.sym_terms.specs.Plain.{PlainSum, sum, Pieces, none, more, PlainAtom, symbol, alone, constant_alone, IsSymbol}
 use Rattle.sym_terms.specs.Order.{sum_cmp, atom_cmp}
+use Rattle.sym_terms.specs.Mentions.{mentions}
 use Rattle.sym_terms.specs.Numbers.{fit_number, pair_number}
 use Rattle.sym_terms.specs.Value.{Valuation, IsInRange, value, value_of_symbol}
 use Rattle.sym_terms.specs.Normal.{plus, minus, times, plus_times, fit, pair, IsNormal}
@@ -63,4 +64,14 @@ pub record ValueLaws (u : Valuation) : Type 0 where
       → value u (pair p a b) ≡ pair_number p (value u a) (value u b)
   pub forms : (a : PlainSum) → HasSymbols a → value u (normal a) ≡ value u a
   pub same : (a b : PlainSum) → HasSymbols a → HasSymbols b → normal a ≡ normal b → value u a ≡ value u b
+  -- every value has 64 bits; a term with a constant alone has that value, and a constant difference
+  -- is the difference of the values
   pub below : (a : PlainSum) → value u a < 2 ^ 64
+  pub known : (a : PlainSum) (c : ℕ) → IsNormal a → constant_alone a ≡ Some c → value u a ≡ c
+  pub offsets : (a b : PlainSum) (d : ℕ) → IsNormal a → IsNormal b → constant_alone (minus a b) ≡ Some d
+      → value u a ≡ (value u b + d) % 2 ^ 64
+
+-- the value depends on the symbols that the term mentions alone
+abbrev pub MentionLaw : Type 0
+MentionLaw = (u v : Valuation) (a : PlainSum)
+    → ((s : Sym) → mentions s a ≡ true → value_of_symbol u s ≡ value_of_symbol v s) → value u a ≡ value v a

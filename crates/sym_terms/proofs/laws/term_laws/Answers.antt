@@ -2,10 +2,11 @@
 use Rattle.sym_terms.specs.Codes.{sum_total}
 use Rattle.sym_terms.specs.Plain.{symbol}
 use Rattle.sym_terms.proofs.SumLemmas.{plus_times_normal}
-use Rattle.sym_terms.proofs.AtomLemmas.{alone_normal, fit_normal, pair_normal, number_value, symbol_value, times_value, fit_value, pair_value, value_below}
+use Rattle.sym_terms.proofs.AtomLemmas.{alone_normal, fit_normal, pair_normal, number_value, symbol_value, times_value, fit_value, pair_value, value_below, constant_value}
 use Rattle.sym_terms.proofs.LooseLemmas.{normal_normal, normal_same, normal_value}
 use Rattle.sym_terms.proofs.CoefficientLemmas.{plus_times_constant, plus_times_coefficient, same_coefficients}
-use Rattle.sym_terms.proofs.LawLemmas.{equal_same, plus_value, minus_value, one_value}
+use Rattle.sym_terms.proofs.LawLemmas.{equal_same, plus_value, minus_value, one_value, offset_value}
+use Rattle.sym_terms.proofs.MentionLemmas.{mentioned_value}
 use Rattle.sym_terms.proofs.laws.term_laws.Goals as goal
 
 pub returns-clause-order : goal.returns-clause-order
@@ -43,4 +44,9 @@ returns-clause-values c u range = record {
   forms = normal_value u range;
   same = one_value u range;
   below = value_below u range;
+  known = constant_value u range;
+  offsets = offset_value u range;
 }
+
+pub returns-clause-mentioned : goal.returns-clause-mentioned
+returns-clause-mentioned c = mentioned_value
