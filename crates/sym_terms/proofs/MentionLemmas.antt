@@ -19,8 +19,8 @@ or_right false c e = e
 
 module _ (u v : Valuation) where
   mutual
-    mentioned : (a : PlainSum) → ((s : Sym) → mentions s a ≡ true → value_of_symbol u s ≡ value_of_symbol v s) → value u a ≡ value v a
-    mentioned (sum c xs) h = ap (λ n. (c + n) % 2 ^ 64) (mentioned_pieces xs h)
+    pub mentioned_value : (a : PlainSum) → ((s : Sym) → mentions s a ≡ true → value_of_symbol u s ≡ value_of_symbol v s) → value u a ≡ value v a
+    mentioned_value (sum c xs) h = ap (λ n. (c + n) % 2 ^ 64) (mentioned_pieces xs h)
 
     mentioned_pieces : (xs : Pieces) → ((s : Sym) → mentions_in_pieces s xs ≡ true → value_of_symbol u s ≡ value_of_symbol v s) → value_of_pieces u xs ≡ value_of_pieces v xs
     mentioned_pieces none h = refl
@@ -30,9 +30,6 @@ module _ (u v : Valuation) where
 
     mentioned_atom : (a : PlainAtom) → ((s : Sym) → mentions_in_atom s a ≡ true → value_of_symbol u s ≡ value_of_symbol v s) → value_of_atom u a ≡ value_of_atom v a
     mentioned_atom (symbol s) h = h s (ap is_eq (tied_itself atom_total (symbol s)))
-    mentioned_atom (fitted f a) h = ap (fit_number f) (mentioned a h)
+    mentioned_atom (fitted f a) h = ap (fit_number f) (mentioned_value a h)
     mentioned_atom (paired p a b) h =
-        ap₂ (pair_number p) (mentioned a (λ s e. h s (or_left (mentions s a) (mentions s b) e))) (mentioned b (λ s e. h s (or_right (mentions s a) (mentions s b) e)))
-
-pub mentioned_value : (u v : Valuation) (a : PlainSum) → ((s : Sym) → mentions s a ≡ true → value_of_symbol u s ≡ value_of_symbol v s) → value u a ≡ value v a
-mentioned_value = mentioned
+        ap₂ (pair_number p) (mentioned_value a (λ s e. h s (or_left (mentions s a) (mentions s b) e))) (mentioned_value b (λ s e. h s (or_right (mentions s a) (mentions s b) e)))

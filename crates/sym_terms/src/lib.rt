@@ -11,6 +11,8 @@ mod memory;
 mod numbers;
 mod sum;
 mod term;
+#[cfg(test)]
+mod tests;
 
 pub use kinds::{Fit, Pair, Sym};
 pub use laws::term_laws;
