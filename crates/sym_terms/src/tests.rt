@@ -92,16 +92,25 @@ fn a_difference_and_a_multiple_have_their_coefficients(rt: HostRuntime) -> Resul
     Ok(())
 }
 
+/// The atom of a term that is one atom.
+fn only_atom(term: &Term) -> Option<&Atom> {
+    let sum = term.as_sum();
+    match sum.atoms.as_slice() {
+        [(atom, coefficient)] if sum.constant == 0 && *coefficient == 1 => Some(atom),
+        _ => None,
+    }
+}
+
 // zx32(rax0) and and(rax0,rcx0)
 #[test]
 fn a_fit_and_a_pair_of_symbols_are_atoms(rt: HostRuntime) -> Result<(), Fail> {
     let alloc = rt.alloc();
     let (rax, rcx) = (entry(alloc, 0)?, entry(alloc, 1)?);
     let low = small(rax.fit(alloc, Fit::Zx32)?)?;
-    assert!(rt; matches!(low.as_sum().atoms.as_slice(), [(Atom::Fit(Fit::Zx32, _), 1)]));
+    assert!(rt; matches!(only_atom(&low), Some(Atom::Fit(Fit::Zx32, _))));
     assert_eq!(rt; low.size(), 4);
     let both = small(rax.pair(alloc, Pair::And, &rcx)?)?;
-    assert!(rt; matches!(both.as_sum().atoms.as_slice(), [(Atom::Pair(Pair::And, _, _), 1)]));
+    assert!(rt; matches!(only_atom(&both), Some(Atom::Pair(Pair::And, _, _))));
     assert_eq!(rt; both.size(), 6);
     Ok(())
 }
