@@ -211,7 +211,7 @@ module _ (u : Valuation) (range : IsInRange u) where
 
   -- a multiple has the multiple of the value
   pub times_value : (x : ℕ) (a : PlainSum) → value u (times x a) ≡ x * value u a % 2 ^ 64
-  times_value x a = 
+  times_value x a =
       plus_times_value u (sum 0 none) x a ∙ ap (λ n. n % 2 ^ 64) (let e : 0 + x * value u a ≡ x * value u a = omega arith in e)
 
   -- the constant is the first of the pair, or the second

@@ -78,7 +78,7 @@ mutual
   atom_lex (paired p a b) (fitted g c) r q = refl
   atom_lex (paired p a b) (paired o c d) r q =
       let arguments = sum_lex a c (sum_code b r) (sum_code d q) ∙ ap (ordering_then (sum_cmp a c)) (sum_lex b d r q)
-          ∙ sym (then_assoc (sum_cmp a c) (sum_cmp b d) (lex r q)) in
+      ∙ sym (then_assoc (sum_cmp a c) (sum_cmp b d) (lex r q)) in
       ap (ordering_then (nat_cmp (pair_rank p) (pair_rank o))) arguments
       ∙ sym (then_assoc (nat_cmp (pair_rank p) (pair_rank o)) (ordering_then (sum_cmp a c) (sum_cmp b d)) (lex r q))
 
@@ -138,7 +138,7 @@ then_equal Less y e = absurd (cc)
 then_equal Equal y e = (refl, e)
 then_equal Greater y e = absurd (cc)
 
--- symbols, fits and pairs that compare Equal are the same
+-- symbols that compare Equal are the same
 pub sym_same : (s t : Sym) → sym_cmp s t ≡ Equal → s ≡ t
 sym_same s t e =
     let both = then_equal (nat_cmp (sym_rank s) (sym_rank t)) (nat_cmp (sym_number s) (sym_number t)) e in
@@ -146,13 +146,15 @@ sym_same s t e =
     ∙ ap₂ sym_of (nat_cmp-IsAntisymmetric _ _ both.0) (nat_cmp-IsAntisymmetric _ _ both.1)
     ∙ sym_back t
 
+-- fits that compare Equal are the same
 fit_same : (f g : Fit) → nat_cmp (fit_rank f) (fit_rank g) ≡ Equal → f ≡ g
 fit_same f g e = sym (fit_back f) ∙ ap fit_of (nat_cmp-IsAntisymmetric _ _ e) ∙ fit_back g
 
+-- pairs that compare Equal are the same
 pair_same : (p q : Pair) → nat_cmp (pair_rank p) (pair_rank q) ≡ Equal → p ≡ q
 pair_same p q e = sym (pair_back p) ∙ ap pair_of (nat_cmp-IsAntisymmetric _ _ e) ∙ pair_back q
 
--- so are terms, pieces and atoms
+-- terms, pieces and atoms that compare Equal are the same
 mutual
   pub sum_same : (a b : PlainSum) → sum_cmp a b ≡ Equal → a ≡ b
   sum_same (sum c xs) (sum d ys) e =
@@ -203,12 +205,14 @@ coded_sum = record {
   inj = λ a b e. sum_code_inj a b ((coded_list coded_ℕ).inj _ _ e);
 }
 
--- the orders of terms, of pieces and of atoms are total
+-- the order of terms is total
 pub sum_total : IsTotalOrder sum_cmp
 sum_total = subst IsTotalOrder (λ i a b. (sum_lex a b [] [] ∙ then_itself (sum_cmp a b)) i) (on_texts (λ s. sum_code s []))
 
+-- the order of pieces is total
 pub pieces_total : IsTotalOrder pieces_cmp
 pieces_total = subst IsTotalOrder (λ i a b. (pieces_lex a b [] [] ∙ then_itself (pieces_cmp a b)) i) (on_texts (λ a. pieces_code a []))
 
+-- the order of atoms is total
 pub atom_total : IsTotalOrder atom_cmp
 atom_total = subst IsTotalOrder (λ i a b. (atom_lex a b [] [] ∙ then_itself (atom_cmp a b)) i) (on_texts (λ a. atom_code a []))

@@ -1,5 +1,5 @@
 -- What holds of the order, the normal form and the value of terms.
-use Rattle.std.specs.Prelude.{◌≡◌, ◌↔◌, ℕ, ◌+◌, ◌-◌, ◌*◌, ◌%◌, ◌^◌, ◌<◌, true, if◌then◌else◌, Some}
+use Rattle.std.specs.Prelude.{◌≡◌, ◌↔◌, ℕ, ◌+◌, ◌-◌, ◌*◌, ◌%◌, ◌^◌, ◌<◌, ◌≤◌, true, if◌then◌else◌, Some, None}
 use Rattle.std.specs.declared.cmp.Ordering.TheVariants.{Equal}
 use Rattle.std.specs.Ordering.{is_eq}
 use Rattle.std.specs.Cmp.{IsTotalOrder}
@@ -7,22 +7,24 @@ use Rattle.sym_terms.specs.declared.kinds.Sym.{Sym}
 use Rattle.sym_terms.specs.declared.kinds.Fit.{Fit}
 use Rattle.sym_terms.specs.declared.kinds.Pair.{Pair}
 use Rattle.sym_terms.specs.Plain.{PlainSum, sum, Pieces, none, more, PlainAtom, symbol, alone, constant_alone, IsSymbol}
+use Rattle.sym_terms.specs.Nodes.{nodes}
 use Rattle.sym_terms.specs.Order.{sum_cmp, atom_cmp}
 use Rattle.sym_terms.specs.Mentions.{mentions}
 use Rattle.sym_terms.specs.Numbers.{fit_number, pair_number}
 use Rattle.sym_terms.specs.Value.{Valuation, IsInRange, value, value_of_symbol}
-use Rattle.sym_terms.specs.Normal.{plus, minus, times, plus_times, fit, pair, IsNormal}
+use Rattle.sym_terms.specs.Normal.{plus, minus, times, plus_times, fit, pair, IsNormal, within}
 use Rattle.sym_terms.specs.Loose.{normal, HasSymbols}
 
 -- the constant of a term
 abbrev pub constant_of : PlainSum → ℕ
 constant_of (sum c xs) = c
 
--- the coefficient of an atom in pieces and in a term, 0 where it doesn't stand
+-- the coefficient of an atom in pieces, 0 where it doesn't stand
 abbrev pub coefficient_in : PlainAtom → Pieces → ℕ
 coefficient_in x none = 0
 coefficient_in x (more a k xs) = if is_eq (atom_cmp x a) then k else coefficient_in x xs
 
+-- the coefficient of an atom in a term
 abbrev pub coefficient_of : PlainAtom → PlainSum → ℕ
 coefficient_of x (sum c xs) = coefficient_in x xs
 
@@ -75,3 +77,9 @@ pub record ValueLaws (u : Valuation) : Type 0 where
 abbrev pub MentionLaw : Type 0
 MentionLaw = (u v : Valuation) (a : PlainSum)
     → ((s : Sym) → mentions s a ≡ true → value_of_symbol u s ≡ value_of_symbol v s) → value u a ≡ value v a
+
+-- within the limit a result is the term itself, and above it None
+pub record LimitLaws : Type 0 where
+  pub small : (a : PlainSum) → nodes a ≤ 32 → within a ≡ Some a
+  pub large : (a : PlainSum) → 32 < nodes a → within a ≡ None
+  pub some : (a b : PlainSum) → within a ≡ Some b → (b ≡ a) × (nodes a ≤ 32)

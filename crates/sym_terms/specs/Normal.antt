@@ -28,16 +28,19 @@ plus_times_pieces (more a k xs) m (more b l ys) =
       | Greater ↦ joined b (m * l % 2 ^ 64) (plus_times_pieces (more a k xs) m ys)
     ]
 
--- the terms a + m * b, a + b, a - b and m * a
+-- the term a + m * b
 unfoldable pub plus_times : PlainSum → ℕ → PlainSum → PlainSum
 plus_times (sum c xs) m (sum d ys) = sum ((c + m * d) % 2 ^ 64) (plus_times_pieces xs m ys)
 
+-- the term a + b
 abbrev pub plus : PlainSum → PlainSum → PlainSum
 plus a b = plus_times a 1 b
 
+-- the term a - b
 abbrev pub minus : PlainSum → PlainSum → PlainSum
 minus a b = plus_times a (2 ^ 64 - 1) b
 
+-- the term m * a
 abbrev pub times : ℕ → PlainSum → PlainSum
 times m a = plus_times (sum 0 none) m a
 

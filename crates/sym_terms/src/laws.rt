@@ -1,5 +1,5 @@
 ghost use Rattle.sym_terms.specs.Value.{Valuation, IsInRange};
-ghost use Rattle.sym_terms.specs.Laws.{OrderLaws, NormalLaws, SumLaws, ValueLaws, MentionLaw};
+ghost use Rattle.sym_terms.specs.Laws.{OrderLaws, NormalLaws, SumLaws, ValueLaws, MentionLaw, LimitLaws};
 
 /// The laws of terms; the call does nothing. The value laws hold under every valuation in range.
 pub fn term_laws()
@@ -8,4 +8,5 @@ pub fn term_laws()
     ensures sums { SumLaws }
     ensures values { (u : Valuation) → IsInRange u → ValueLaws u }
     ensures mentioned { MentionLaw }
+    ensures limit { LimitLaws }
 {}

@@ -1,32 +1,81 @@
-use crate::{Atom, Fit, Pair, Sym, Term};
+use crate::{Atom, Fit, NoMemory, Pair, Sum, Sym, Term};
 use std::alloc::Global;
 use std::cmp::Ordering;
 use std::test::Fail;
 
 const SIGN: u64 = 1 << 63;
-const KINDS_OF_FIT: [Fit; 6] = [
-    Fit::Zx8,
-    Fit::Zx16,
-    Fit::Zx32,
-    Fit::Sx8,
-    Fit::Sx16,
-    Fit::Sx32,
-];
 
-fn entry(alloc: Global, register: u8) -> Result<Term, Fail> {
-    if register < 16 {
-        Ok(Term::symbol(alloc, Sym::Entry(register))?)
-    } else {
-        Err("no register")?
+const RAX: Sym = Sym::Entry(0);
+
+const RCX: Sym = Sym::Entry(1);
+
+/// One operation on the term at hand, and on a second one where it takes two.
+#[derive(Clone, Copy, Debug)]
+enum Step {
+    Add,
+    Sub,
+    Scale(u64),
+    Fit(Fit),
+    Pair(Pair),
+}
+
+fn apply(alloc: Global, step: Step, left: &Term, right: &Term) -> Result<Option<Term>, NoMemory> {
+    match step {
+        Step::Add => left.add(alloc, right),
+        Step::Sub => left.sub(alloc, right),
+        Step::Scale(k) => left.scale(alloc, k),
+        Step::Fit(f) => left.fit(alloc, f),
+        Step::Pair(p) => left.pair(alloc, p, right),
     }
 }
 
-fn small(term: Option<Term>) -> Result<Term, Fail> {
-    Ok(term.ok_or("over 32 nodes")?)
+fn on_entries(alloc: Global, step: Step) -> Result<Option<Term>, NoMemory> {
+    let rax = Term::symbol(alloc, RAX)?;
+    let rcx = Term::symbol(alloc, RCX)?;
+    apply(alloc, step, &rax, &rcx)
+}
+
+fn on_itself(alloc: Global, step: Step) -> Result<Option<Term>, NoMemory> {
+    let rax = Term::symbol(alloc, RAX)?;
+    apply(alloc, step, &rax, &rax)
+}
+
+fn with_constant(alloc: Global, step: Step, constant: u64) -> Result<Option<Term>, NoMemory> {
+    let rax = Term::symbol(alloc, RAX)?;
+    apply(alloc, step, &rax, &Term::constant(alloc, constant))
+}
+
+fn on_constants(alloc: Global, step: Step, x: u64, y: u64) -> Result<Option<u64>, NoMemory> {
+    let term = apply(
+        alloc,
+        step,
+        &Term::constant(alloc, x),
+        &Term::constant(alloc, y),
+    )?;
+    Ok(term.and_then(|term| term.as_constant()))
+}
+
+fn size_of(term: Option<Term>) -> Option<u32> {
+    term.map(|term| term.size())
+}
+
+/// The term is no constant but these symbols with their coefficients.
+fn is_sum(term: Option<Term>, symbols: &[(Sym, u64)]) -> bool {
+    let Some(term) = term else {
+        return false;
+    };
+    let sum = term.as_sum();
+    let atoms = sum.atoms.as_slice();
+    sum.constant == 0
+        && atoms.len() == symbols.len()
+        && atoms.iter().zip(symbols).all(|(piece, symbol)| match piece {
+            (Atom::Sym(this), coefficient) => *this == symbol.0 && *coefficient == symbol.1,
+            _ => false,
+        })
 }
 
 /// The sum of the values that the addresses 0, 1, 2 and so on name.
-fn sum_of_names(alloc: Global, count: u64) -> Result<Option<Term>, Fail> {
+fn names(alloc: Global, count: u64) -> Result<Option<Term>, NoMemory> {
     let mut all = Term::constant(alloc, 0);
     for address in 0..count {
         let next = Term::symbol(alloc, Sym::Named(address))?;
@@ -40,284 +89,290 @@ fn sum_of_names(alloc: Global, count: u64) -> Result<Option<Term>, Fail> {
 
 #[test]
 fn thirty_one_symbols_have_32_nodes_and_one_more_is_too_many(rt: HostRuntime) -> Result<(), Fail> {
-    let alloc = rt.alloc();
-    let most = small(sum_of_names(alloc, 31)?)?;
-    assert_eq!(rt; most.size(), 32);
-    assert!(rt; sum_of_names(alloc, 32)?.is_none());
+    assert_eq!(rt; size_of(names(rt.alloc(), 31)?), Some(32));
+    assert_eq!(rt; size_of(names(rt.alloc(), 32)?), None);
     Ok(())
 }
 
-fn fitted_names(alloc: Global, count: u64) -> Result<Option<u32>, Fail> {
-    let sum = small(sum_of_names(alloc, count)?)?;
-    Ok(sum.fit(alloc, Fit::Sx8)?.map(|term| term.size()))
-}
-
-fn paired_names(alloc: Global, left: u64, right: u64) -> Result<Option<u32>, Fail> {
-    let left = small(sum_of_names(alloc, left)?)?;
-    let right = small(sum_of_names(alloc, right)?)?;
-    Ok(left.pair(alloc, Pair::Shr, &right)?.map(|term| term.size()))
+fn size_of_step(alloc: Global, step: Step, left: u64, right: u64) -> Result<Option<u32>, NoMemory> {
+    let (Some(left), Some(right)) = (names(alloc, left)?, names(alloc, right)?) else {
+        return Ok(None);
+    };
+    Ok(size_of(apply(alloc, step, &left, &right)?))
 }
 
 #[test]
 fn a_fit_and_a_pair_of_32_nodes_are_terms_and_of_33_are_not(rt: HostRuntime) -> Result<(), Fail> {
-    let alloc = rt.alloc();
-    assert_eq!(rt; fitted_names(alloc, 29)?, Some(32));
-    assert_eq!(rt; fitted_names(alloc, 30)?, None);
-    assert_eq!(rt; paired_names(alloc, 14, 14)?, Some(32));
-    assert_eq!(rt; paired_names(alloc, 14, 15)?, None);
+    let cases = [
+        (Step::Fit(Fit::Sx8), 29, 0, Some(32)),
+        (Step::Fit(Fit::Sx8), 30, 0, None),
+        (Step::Pair(Pair::Shr), 14, 14, Some(32)),
+        (Step::Pair(Pair::Shr), 14, 15, None),
+    ];
+    for (step, left, right, expected) in cases {
+        assert_eq!(rt;
+            size_of_step(rt.alloc(), step, left, right)?,
+            expected,
+            "{step:?}"
+        );
+    }
     Ok(())
 }
 
-/// The term is a constant and these symbols with their coefficients.
-fn is_sum(term: &Term, constant: u64, symbols: &[(Sym, u64)]) -> bool {
-    let sum = term.as_sum();
-    let atoms = sum.atoms.as_slice();
-    sum.constant == constant
-        && atoms.len() == symbols.len()
-        && atoms.iter().zip(symbols).all(|(piece, symbol)| match piece {
-            (Atom::Sym(this), coefficient) => *this == symbol.0 && *coefficient == symbol.1,
-            _ => false,
-        })
-}
-
-// rax0-rcx0 and 3*rax0
+// rax0-rcx0, 3*rax0, rax0+rcx0
 #[test]
-fn a_difference_and_a_multiple_have_their_coefficients(rt: HostRuntime) -> Result<(), Fail> {
+fn sums_differences_and_multiples_have_their_coefficients(rt: HostRuntime) -> Result<(), Fail> {
     let alloc = rt.alloc();
-    let (rax, rcx) = (entry(alloc, 0)?, entry(alloc, 1)?);
-    let difference = small(rax.sub(alloc, &rcx)?)?;
-    assert!(rt; is_sum(&difference, 0, &[(Sym::Entry(0), 1), (Sym::Entry(1), u64::MAX)]));
-    let multiple = small(rax.scale(alloc, 3)?)?;
-    assert!(rt; is_sum(&multiple, 0, &[(Sym::Entry(0), 3)]));
+    assert!(rt; is_sum(on_entries(alloc, Step::Sub)?, &[(RAX, 1), (RCX, u64::MAX)]));
+    assert!(rt; is_sum(on_entries(alloc, Step::Scale(3))?, &[(RAX, 3)]));
+    assert!(rt; is_sum(on_entries(alloc, Step::Add)?, &[(RAX, 1), (RCX, 1)]));
     Ok(())
 }
 
-/// The atom of a term that is one atom.
-fn only_atom(term: &Term) -> Option<&Atom> {
-    let sum = term.as_sum();
-    match sum.atoms.as_slice() {
-        [(atom, coefficient)] if sum.constant == 0 && *coefficient == 1 => Some(atom),
-        _ => None,
+fn is_symbol(argument: &Sum, symbol: Sym) -> bool {
+    match argument.atoms.as_slice() {
+        [(Atom::Sym(this), coefficient)] => {
+            *this == symbol && *coefficient == 1 && argument.constant == 0
+        }
+        _ => false,
     }
 }
 
-// zx32(rax0) and and(rax0,rcx0)
-#[test]
-fn a_fit_and_a_pair_of_symbols_are_atoms(rt: HostRuntime) -> Result<(), Fail> {
-    let alloc = rt.alloc();
-    let (rax, rcx) = (entry(alloc, 0)?, entry(alloc, 1)?);
-    let low = small(rax.fit(alloc, Fit::Zx32)?)?;
-    assert!(rt; matches!(only_atom(&low), Some(Atom::Fit(Fit::Zx32, _))));
-    assert_eq!(rt; low.size(), 4);
-    let both = small(rax.pair(alloc, Pair::And, &rcx)?)?;
-    assert!(rt; matches!(only_atom(&both), Some(Atom::Pair(Pair::And, _, _))));
-    assert_eq!(rt; both.size(), 6);
-    Ok(())
+/// The term is the step itself as one atom, as zx32(rax0) and and(rax0,rcx0) are.
+fn is_atom(term: Option<Term>, step: Step) -> bool {
+    let Some(term) = term else {
+        return false;
+    };
+    match (step, term.as_sum().atoms.as_slice()) {
+        (Step::Fit(f), [(Atom::Fit(kind, argument), coefficient)]) => {
+            f == *kind && *coefficient == 1 && is_symbol(argument.get(), RAX)
+        }
+        (Step::Pair(p), [(Atom::Pair(kind, left, right), coefficient)]) => {
+            p == *kind
+                && *coefficient == 1
+                && is_symbol(left.get(), RAX)
+                && is_symbol(right.get(), RCX)
+        }
+        _ => false,
+    }
 }
 
 #[test]
-fn constants_wrap_at_two_to_the_64(rt: HostRuntime) -> Result<(), Fail> {
-    let alloc = rt.alloc();
-    let (one, most) = (Term::constant(alloc, 1), Term::constant(alloc, u64::MAX));
-    assert_eq!(rt; small(most.add(alloc, &one)?)?.as_constant(), Some(0));
-    assert_eq!(rt; small(one.sub(alloc, &most)?)?.as_constant(), Some(2));
-    assert_eq!(rt; small(most.scale(alloc, 3)?)?.as_constant(), Some(u64::MAX - 2));
+fn fits_and_pairs_of_symbols_are_atoms(rt: HostRuntime) -> Result<(), Fail> {
+    let steps = [
+        Step::Fit(Fit::Zx8),
+        Step::Fit(Fit::Zx32),
+        Step::Fit(Fit::Sx16),
+        Step::Pair(Pair::And),
+        Step::Pair(Pair::Xor),
+        Step::Pair(Pair::Mul),
+        Step::Pair(Pair::Sar),
+    ];
+    for step in steps {
+        assert!(rt; is_atom(on_entries(rt.alloc(), step)?, step), "{step:?}");
+    }
     Ok(())
 }
 
+// Numbers wrap at 2^64; shifts are by the second number modulo 64.
+#[test]
+fn operations_on_constants_give_constants(rt: HostRuntime) -> Result<(), Fail> {
+    let cases = [
+        (Step::Add, u64::MAX, 1, 0),
+        (Step::Sub, 1, u64::MAX, 2),
+        (Step::Scale(3), u64::MAX, 0, u64::MAX - 2),
+        (Step::Fit(Fit::Zx8), 0x1ff, 0, 0xff),
+        (Step::Fit(Fit::Zx16), 0x1_8000, 0, 0x8000),
+        (Step::Fit(Fit::Zx32), u64::MAX, 0, 0xffff_ffff),
+        (Step::Fit(Fit::Sx8), 0x17f, 0, 0x7f),
+        (Step::Fit(Fit::Sx8), 0x80, 0, 0xffff_ffff_ffff_ff80),
+        (Step::Fit(Fit::Sx16), 0x8000, 0, 0xffff_ffff_ffff_8000),
+        (Step::Fit(Fit::Sx32), 0x8000_0000, 0, 0xffff_ffff_8000_0000),
+        (Step::Pair(Pair::And), 0b1100, 0b1010, 0b1000),
+        (Step::Pair(Pair::Or), 0b1100, 0b1010, 0b1110),
+        (Step::Pair(Pair::Xor), 0b1100, 0b1010, 0b0110),
+        (Step::Pair(Pair::Mul), SIGN, 2, 0),
+        (Step::Pair(Pair::Shr), SIGN, 63, 1),
+        (Step::Pair(Pair::Shr), SIGN, 64, SIGN),
+        (Step::Pair(Pair::Sar), SIGN, 65, SIGN + SIGN / 2),
+        (Step::Pair(Pair::Sar), SIGN - 1, 62, 1),
+        (Step::Pair(Pair::Sar), SIGN, 63, u64::MAX),
+    ];
+    for (step, x, y, expected) in cases {
+        assert_eq!(rt;
+            on_constants(rt.alloc(), step, x, y)?,
+            Some(expected),
+            "{step:?} {x} {y}"
+        );
+    }
+    Ok(())
+}
+
+fn half_twice(alloc: Global) -> Result<Option<Term>, NoMemory> {
+    let Some(half) = on_itself(alloc, Step::Scale(SIGN))? else {
+        return Ok(None);
+    };
+    half.add(alloc, &half)
+}
+
+// The coefficient 2^63 twice, and an atom less itself.
 #[test]
 fn an_atom_whose_coefficient_becomes_0_is_gone(rt: HostRuntime) -> Result<(), Fail> {
-    let alloc = rt.alloc();
-    let rax = entry(alloc, 0)?;
-    let half = small(rax.scale(alloc, SIGN)?)?;
-    assert_eq!(rt; small(half.add(alloc, &half)?)?.as_constant(), Some(0), "2^63 twice");
-    assert_eq!(rt; small(rax.sub(alloc, &rax)?)?.as_constant(), Some(0), "less itself");
-    assert_eq!(rt; small(half.scale(alloc, 2)?)?.as_constant(), Some(0), "2^63 times 2");
+    assert!(rt; is_sum(half_twice(rt.alloc())?, &[]));
+    assert!(rt; is_sum(on_itself(rt.alloc(), Step::Sub)?, &[]));
     Ok(())
 }
 
 /// The nodes of a fit of a fit of rax0: 4 where the outer fit changes nothing, else 6.
-fn nested_size(alloc: Global, outer: Fit, inner: Fit) -> Result<u32, Fail> {
-    let low = small(entry(alloc, 0)?.fit(alloc, inner)?)?;
-    Ok(small(low.fit(alloc, outer)?)?.size())
-}
-
-fn nested_sizes(alloc: Global, outer: Fit) -> Result<[u32; 6], Fail> {
-    let mut sizes = [0; 6];
-    for (size, inner) in sizes.iter_mut().zip(KINDS_OF_FIT) {
-        *size = nested_size(alloc, outer, inner)?;
-    }
-    Ok(sizes)
-}
-
-// The inner fits are zx8, zx16, zx32, sx8, sx16 and sx32.
-#[test]
-fn a_fit_by_zeros_leaves_narrower_and_equal_fits_by_zeros(rt: HostRuntime) -> Result<(), Fail> {
-    let alloc = rt.alloc();
-    assert_eq!(rt; nested_sizes(alloc, Fit::Zx8)?, [4, 6, 6, 6, 6, 6]);
-    assert_eq!(rt; nested_sizes(alloc, Fit::Zx16)?, [4, 4, 6, 6, 6, 6]);
-    assert_eq!(rt; nested_sizes(alloc, Fit::Zx32)?, [4, 4, 4, 6, 6, 6]);
-    Ok(())
+fn nested_size(alloc: Global, outer: Fit, inner: Fit) -> Result<Option<u32>, NoMemory> {
+    let Some(low) = on_itself(alloc, Step::Fit(inner))? else {
+        return Ok(None);
+    };
+    Ok(size_of(low.fit(alloc, outer)?))
 }
 
 #[test]
-fn a_fit_by_the_sign_leaves_narrower_fits_by_zeros(rt: HostRuntime) -> Result<(), Fail> {
-    let alloc = rt.alloc();
-    assert_eq!(rt; nested_sizes(alloc, Fit::Sx8)?, [6, 6, 6, 6, 6, 6]);
-    assert_eq!(rt; nested_sizes(alloc, Fit::Sx16)?, [4, 6, 6, 6, 6, 6]);
-    assert_eq!(rt; nested_sizes(alloc, Fit::Sx32)?, [4, 4, 6, 6, 6, 6]);
-    Ok(())
-}
-
-fn fit_of(alloc: Global, f: Fit, n: u64) -> Result<Option<u64>, Fail> {
-    Ok(small(Term::constant(alloc, n).fit(alloc, f)?)?.as_constant())
-}
-
-#[test]
-fn fits_of_constants_are_constants(rt: HostRuntime) -> Result<(), Fail> {
-    let alloc = rt.alloc();
-    let cases = [
-        (Fit::Zx8, 0x1ff, 0xff),
-        (Fit::Zx16, 0x1_8000, 0x8000),
-        (Fit::Zx32, u64::MAX, 0xffff_ffff),
-        (Fit::Sx8, 0x17f, 0x7f),
-        (Fit::Sx8, 0x80, 0xffff_ffff_ffff_ff80),
-        (Fit::Sx16, 0x8000, 0xffff_ffff_ffff_8000),
-        (Fit::Sx32, 0x8000_0000, 0xffff_ffff_8000_0000),
+fn a_fit_leaves_narrow_fits_by_zeros(rt: HostRuntime) -> Result<(), Fail> {
+    let kinds = [
+        Fit::Zx8,
+        Fit::Zx16,
+        Fit::Zx32,
+        Fit::Sx8,
+        Fit::Sx16,
+        Fit::Sx32,
     ];
-    for (f, n, expected) in cases {
-        assert_eq!(rt; fit_of(alloc, f, n)?, Some(expected), "{f:?} of {n}");
-    }
-    Ok(())
-}
-
-fn pair_of(alloc: Global, p: Pair, x: u64, y: u64) -> Result<Option<u64>, Fail> {
-    let right = Term::constant(alloc, y);
-    Ok(small(Term::constant(alloc, x).pair(alloc, p, &right)?)?.as_constant())
-}
-
-#[test]
-fn pairs_of_constants_are_constants(rt: HostRuntime) -> Result<(), Fail> {
-    let alloc = rt.alloc();
     let cases = [
-        (Pair::And, 0b1100, 0b1010, 0b1000),
-        (Pair::Or, 0b1100, 0b1010, 0b1110),
-        (Pair::Xor, 0b1100, 0b1010, 0b0110),
-        (Pair::Mul, SIGN, 2, 0),
-        (Pair::Shr, SIGN, 63, 1),
-        (Pair::Shr, SIGN, 64, SIGN),
-        (Pair::Sar, SIGN, 65, SIGN + SIGN / 2),
-        (Pair::Sar, SIGN - 1, 62, 1),
-        (Pair::Sar, SIGN, 63, u64::MAX),
+        (Fit::Zx8, [4, 6, 6, 6, 6, 6]),
+        (Fit::Zx16, [4, 4, 6, 6, 6, 6]),
+        (Fit::Zx32, [4, 4, 4, 6, 6, 6]),
+        (Fit::Sx8, [6, 6, 6, 6, 6, 6]),
+        (Fit::Sx16, [4, 6, 6, 6, 6, 6]),
+        (Fit::Sx32, [4, 4, 6, 6, 6, 6]),
     ];
-    for (p, x, y, expected) in cases {
-        assert_eq!(rt; pair_of(alloc, p, x, y)?, Some(expected), "{p:?} of {x} and {y}");
+    for (outer, sizes) in cases {
+        for (inner, size) in kinds.iter().zip(sizes) {
+            let found = nested_size(rt.alloc(), outer, *inner)?;
+            assert_eq!(rt; found, Some(size), "{outer:?} of {inner:?}");
+        }
     }
     Ok(())
-}
-
-fn with_itself(alloc: Global, p: Pair) -> Result<Term, Fail> {
-    let rax = entry(alloc, 0)?;
-    small(rax.pair(alloc, p, &rax)?)
 }
 
 #[test]
 fn and_or_and_xor_of_a_term_with_itself_are_no_atoms(rt: HostRuntime) -> Result<(), Fail> {
     let alloc = rt.alloc();
-    let rax = [(Sym::Entry(0), 1)];
-    assert!(rt; is_sum(&with_itself(alloc, Pair::And)?, 0, &rax));
-    assert!(rt; is_sum(&with_itself(alloc, Pair::Or)?, 0, &rax));
-    assert!(rt; is_sum(&with_itself(alloc, Pair::Xor)?, 0, &[]));
-    assert_eq!(rt; with_itself(alloc, Pair::Mul)?.size(), 6, "mul(rax0,rax0)");
+    assert!(rt; is_sum(on_itself(alloc, Step::Pair(Pair::And))?, &[(RAX, 1)]));
+    assert!(rt; is_sum(on_itself(alloc, Step::Pair(Pair::Or))?, &[(RAX, 1)]));
+    assert!(rt; is_sum(on_itself(alloc, Step::Pair(Pair::Xor))?, &[]));
     Ok(())
-}
-
-fn with_constant(alloc: Global, p: Pair, n: u64) -> Result<Term, Fail> {
-    let rax = entry(alloc, 0)?;
-    small(rax.pair(alloc, p, &Term::constant(alloc, n))?)
 }
 
 #[test]
 fn a_product_with_a_constant_is_a_multiple(rt: HostRuntime) -> Result<(), Fail> {
     let alloc = rt.alloc();
-    assert!(rt; is_sum(&with_constant(alloc, Pair::Mul, 0)?, 0, &[]));
-    assert!(rt; is_sum(&with_constant(alloc, Pair::Mul, 1)?, 0, &[(Sym::Entry(0), 1)]));
-    let left = Term::constant(alloc, 5).pair(alloc, Pair::Mul, &entry(alloc, 0)?)?;
-    assert!(rt; is_sum(&small(left)?, 0, &[(Sym::Entry(0), 5)]));
+    assert!(rt; is_sum(with_constant(alloc, Step::Pair(Pair::Mul), 0)?, &[]));
+    assert!(rt; is_sum(with_constant(alloc, Step::Pair(Pair::Mul), 1)?, &[(RAX, 1)]));
+    assert!(rt; is_sum(with_constant(alloc, Step::Pair(Pair::Mul), 5)?, &[(RAX, 5)]));
     Ok(())
 }
 
+// mul(rax0,rax0), shr(rax0,rax0), shr(rax0,0), and(rax0,0)
 #[test]
-fn shifts_by_terms_and_by_0_are_atoms(rt: HostRuntime) -> Result<(), Fail> {
+fn other_pairs_are_atoms(rt: HostRuntime) -> Result<(), Fail> {
     let alloc = rt.alloc();
-    assert_eq!(rt; with_itself(alloc, Pair::Shr)?.size(), 6, "shr(rax0,rax0)");
-    assert_eq!(rt; with_itself(alloc, Pair::Sar)?.size(), 6, "sar(rax0,rax0)");
-    assert_eq!(rt; with_constant(alloc, Pair::Shr, 0)?.size(), 5, "shr(rax0,0)");
-    assert_eq!(rt; with_constant(alloc, Pair::And, 0)?.size(), 5, "and(rax0,0)");
+    assert_eq!(rt; size_of(on_itself(alloc, Step::Pair(Pair::Mul))?), Some(6));
+    assert_eq!(rt; size_of(on_itself(alloc, Step::Pair(Pair::Shr))?), Some(6));
+    assert_eq!(rt;
+        size_of(with_constant(alloc, Step::Pair(Pair::Shr), 0)?),
+        Some(5)
+    );
+    assert_eq!(rt;
+        size_of(with_constant(alloc, Step::Pair(Pair::And), 0)?),
+        Some(5)
+    );
     Ok(())
 }
 
-#[test]
-fn symbols_go_by_number_then_ra_fs_and_addresses(rt: HostRuntime) {
-    let ascending = [
-        Sym::Entry(3),
-        Sym::Entry(4),
-        Sym::Entry(10),
-        Sym::Ra,
-        Sym::FsBase,
-        Sym::Named(0),
-        Sym::Named(u64::MAX),
-    ];
-    for pair in ascending.windows(2) {
-        if let [left, right] = pair {
-            assert_eq!(rt; left.compare(*right), Ordering::Less, "{left:?} and {right:?}");
-        }
+fn symbol(alloc: Global, symbol: Sym) -> Result<Option<Term>, NoMemory> {
+    match symbol {
+        Sym::Entry(register) if register > 15 => Ok(None),
+        _ => Ok(Some(Term::symbol(alloc, symbol)?)),
     }
 }
 
-#[test]
-fn a_term_comes_before_a_longer_one_and_after_a_smaller_constant(
-    rt: HostRuntime,
-) -> Result<(), Fail> {
-    let alloc = rt.alloc();
-    let rax = entry(alloc, 0)?;
-    let longer = small(rax.add(alloc, &entry(alloc, 1)?)?)?;
-    assert_eq!(rt; rax.compare(&longer), Ordering::Less, "a prefix");
-    assert_eq!(rt; Term::constant(alloc, 1).compare(&longer), Ordering::Greater, "1 and 0");
-    assert_eq!(rt; longer.compare(&longer.copy(alloc)?), Ordering::Equal, "a copy");
-    Ok(())
+/// Terms in ascending order.
+fn nth(alloc: Global, n: u8) -> Result<Option<Term>, NoMemory> {
+    match n {
+        0 => Ok(Some(Term::constant(alloc, 0))),
+        1 => symbol(alloc, RAX),
+        2 => on_entries(alloc, Step::Add),
+        3 => on_entries(alloc, Step::Scale(2)),
+        4 => symbol(alloc, RCX),
+        5 => symbol(alloc, Sym::Entry(4)),
+        6 => symbol(alloc, Sym::Entry(10)),
+        7 => symbol(alloc, Sym::Ra),
+        8 => symbol(alloc, Sym::FsBase),
+        9 => symbol(alloc, Sym::Named(9)),
+        10 => symbol(alloc, Sym::Named(10)),
+        11 => on_entries(alloc, Step::Fit(Fit::Zx16)),
+        12 => on_entries(alloc, Step::Fit(Fit::Sx8)),
+        13 => on_entries(alloc, Step::Pair(Pair::And)),
+        14 => on_entries(alloc, Step::Pair(Pair::Sar)),
+        _ => Ok(Some(Term::constant(alloc, 1))),
+    }
+}
+
+fn order_of(alloc: Global, i: u8, j: u8) -> Result<Option<Ordering>, NoMemory> {
+    let (Some(left), Some(right)) = (nth(alloc, i)?, nth(alloc, j)?) else {
+        return Ok(None);
+    };
+    Ok(Some(left.compare(&right.copy(alloc)?)))
 }
 
 #[test]
-fn symbols_come_before_fits_and_fits_before_pairs(rt: HostRuntime) -> Result<(), Fail> {
-    let alloc = rt.alloc();
-    let rax = entry(alloc, 0)?;
-    let low = small(rax.fit(alloc, Fit::Sx32)?)?;
-    let both = with_constant(alloc, Pair::And, 1)?;
-    assert_eq!(rt; rax.compare(&low), Ordering::Less);
-    assert_eq!(rt; low.compare(&both), Ordering::Less);
-    assert_eq!(rt; both.compare(&rax), Ordering::Greater);
+fn terms_compare_by_constant_then_by_their_pieces(rt: HostRuntime) -> Result<(), Fail> {
+    for i in 0..16 {
+        for j in 0..16 {
+            assert_eq!(rt; order_of(rt.alloc(), i, j)?, Some(i.cmp(&j)), "{i} and {j}");
+        }
+    }
     Ok(())
 }
 
+fn both_mention(alloc: Global, symbol: Sym) -> Result<bool, NoMemory> {
+    let fitted = on_entries(alloc, Step::Fit(Fit::Zx8))?;
+    let paired = on_entries(alloc, Step::Pair(Pair::Or))?;
+    let (Some(fitted), Some(paired)) = (fitted, paired) else {
+        return Ok(false);
+    };
+    let both = fitted.add(alloc, &paired)?;
+    Ok(both.is_some_and(|both| both.mentions(symbol)))
+}
+
+// zx8(rax0)+or(rax0,rcx0)
 #[test]
 fn a_symbol_is_mentioned_at_any_depth(rt: HostRuntime) -> Result<(), Fail> {
-    let alloc = rt.alloc();
-    let low = small(entry(alloc, 0)?.fit(alloc, Fit::Zx8)?)?;
-    let both = small(low.pair(alloc, Pair::Or, &entry(alloc, 1)?)?)?;
-    assert!(rt; both.mentions(Sym::Entry(0)));
-    assert!(rt; both.mentions(Sym::Entry(1)));
-    assert!(rt; !both.mentions(Sym::Ra));
+    for (symbol, expected) in [
+        (RAX, true),
+        (RCX, true),
+        (Sym::Entry(2), false),
+        (Sym::Ra, false),
+    ] {
+        assert_eq!(rt; both_mention(rt.alloc(), symbol)?, expected, "{symbol:?}");
+    }
     Ok(())
+}
+
+fn offset(alloc: Global, step: Step, constant: u64) -> Result<Option<u64>, NoMemory> {
+    let rax = Term::symbol(alloc, RAX)?;
+    let moved = with_constant(alloc, step, constant)?;
+    Ok(moved.and_then(|moved| moved.offset_from(&rax)))
 }
 
 #[test]
 fn an_offset_is_known_where_the_difference_is_constant(rt: HostRuntime) -> Result<(), Fail> {
-    let alloc = rt.alloc();
-    let rsp = entry(alloc, 4)?;
-    let below = small(rsp.sub(alloc, &Term::constant(alloc, 8))?)?;
-    assert_eq!(rt; below.offset_from(&rsp), Some(0u64.wrapping_sub(8)));
-    assert_eq!(rt; rsp.offset_from(&below), Some(8));
-    assert_eq!(rt; rsp.offset_from(&entry(alloc, 5)?), None);
+    assert_eq!(rt; offset(rt.alloc(), Step::Add, 8)?, Some(8));
+    assert_eq!(rt; offset(rt.alloc(), Step::Sub, 8)?, Some(u64::MAX - 7));
+    assert_eq!(rt; offset(rt.alloc(), Step::Scale(2), 0)?, None);
     Ok(())
 }

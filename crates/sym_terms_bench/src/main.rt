@@ -5,8 +5,7 @@
 
 mod sums;
 
-use std::env;
-use std::io;
+use std::{env, io};
 
 fn main(rt: HostRuntime) -> io::Result<()> {
     let mut count = 0;

@@ -5,7 +5,7 @@ use Rattle.sym_terms.proofs.SumLemmas.{plus_times_normal}
 use Rattle.sym_terms.proofs.AtomLemmas.{alone_normal, fit_normal, pair_normal, number_value, symbol_value, times_value, fit_value, pair_value, value_below, constant_value}
 use Rattle.sym_terms.proofs.LooseLemmas.{normal_normal, normal_same, normal_value}
 use Rattle.sym_terms.proofs.CoefficientLemmas.{plus_times_constant, plus_times_coefficient, same_coefficients}
-use Rattle.sym_terms.proofs.LawLemmas.{equal_same, plus_value, minus_value, one_value, offset_value}
+use Rattle.sym_terms.proofs.LawLemmas.{equal_same, plus_value, minus_value, one_value, offset_value, limits}
 use Rattle.sym_terms.proofs.MentionLemmas.{mentioned_value}
 use Rattle.sym_terms.proofs.laws.term_laws.Goals as goal
 
@@ -50,3 +50,6 @@ returns-clause-values c u range = record {
 
 pub returns-clause-mentioned : goal.returns-clause-mentioned
 returns-clause-mentioned c = mentioned_value
+
+pub returns-clause-limit : goal.returns-clause-limit
+returns-clause-limit c = limits

@@ -29,5 +29,5 @@ compare_pieces-loop-a-preserved t c =
       (tt, tt),
       tt,
       rw longer (deferred_at _ _ _ _ _ (turn.2 _) turn.0 (turn.3 _) turn.1 _ (rw (c.compare.ensures, c.cmp.ensures) at c.then-order.ensures) (sym c.is_ne.ensures ∙ c.if-is_ne.false)
-      ∙ c.loop-a.invariant.2),
+          ∙ c.loop-a.invariant.2),
     )
