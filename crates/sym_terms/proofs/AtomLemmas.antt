@@ -12,7 +12,7 @@ use Rattle.sym_terms.specs.declared.kinds.Sym.TheVariants.{Entry, Ra, FsBase, Na
 use Rattle.sym_terms.specs.declared.kinds.Fit.{Fit}
 use Rattle.sym_terms.specs.declared.kinds.Pair.{Pair}
 use Rattle.sym_terms.specs.declared.kinds.Pair.TheVariants.{And, Or, Xor, Mul, Shr, Sar}
-use Rattle.sym_terms.specs.Plain.{PlainSum, sum, Pieces, none, more, PlainAtom, symbol, fitted, paired, constant_alone, alone, IsSymbol}
+use Rattle.sym_terms.specs.Plain.{PlainSum, sum, none, more, PlainAtom, symbol, fitted, paired, constant_alone, alone, IsSymbol}
 use Rattle.sym_terms.specs.Nodes.{nodes}
 use Rattle.sym_terms.specs.Order.{sum_cmp}
 use Rattle.sym_terms.specs.Codes.{sum_same}
@@ -22,9 +22,11 @@ use Rattle.sym_terms.specs.Normal.{times, atom_bits, kept_bits, stays, fit, fit_
 use Rattle.sym_terms.proofs.SumLemmas.{plus_times_normal, plus_times_nodes, plus_times_value}
 use Rattle.sym_terms.proofs.NumberLemmas.{fit_number_below, fit_number_same, fit_number_bits, pair_number_below}
 
+-- a normal atom alone is a normal term
 pub alone_normal : (a : PlainAtom) → IsNormalAtom a → IsNormal (alone a)
 alone_normal a n = (omega arith, (n, omega arith, omega arith, tt, tt))
 
+-- so is 0
 pub zero_normal : IsNormal (sum 0 none)
 zero_normal = (omega arith, tt)
 
@@ -40,6 +42,7 @@ fit_normal f (sum c (more b k xs)) n =
       | false ↦ λ e. alone_normal (fitted f (sum c (more b k xs))) (n, ap (λ t. if t then sum c (more b k xs) else alone (fitted f (sum c (more b k xs)))) e)
     ]) refl
 
+-- a fit adds two nodes at most
 pub fit_nodes : (f : Fit) (a : PlainSum) → nodes (fit f a) ≤ nodes a + 2
 unfolding fit
 fit_nodes f (sum c none) = omega arith
@@ -51,6 +54,7 @@ fit_nodes f (sum c (more b k xs)) =
 
 -- ---- pairs
 
+-- the constant of a normal term has 64 bits
 constant_below : (a : PlainSum) (x : ℕ) → IsNormal a → constant_alone a ≡ Some x → x < 2 ^ 64
 constant_below (sum c none) x n e = let f : c ≡ x = cc in subst (λ y. y < 2 ^ 64) f n.0
 constant_below (sum c (more b k xs)) x n e = absurd (cc)
@@ -61,6 +65,7 @@ either_normal : (t : Bool) (c : PlainSum) (a : PlainAtom) (whole : PlainSum) →
 either_normal true c a whole n e h = n
 either_normal false c a whole n e h = alone_normal a (h e)
 
+-- each result without a constant is normal
 pair_alone_normal : (p : Pair) (a b : PlainSum) → IsNormal a → IsNormal b → pair p a b ≡ pair_alone p a b → IsNormal (pair_alone p a b)
 pair_alone_normal And a b na nb e = either_normal (is_eq (sum_cmp a b)) a (paired And a b) (pair And a b) na e (λ h. (na, nb, h))
 pair_alone_normal Or a b na nb e = either_normal (is_eq (sum_cmp a b)) a (paired Or a b) (pair Or a b) na e (λ h. (na, nb, h))
@@ -69,6 +74,7 @@ pair_alone_normal Mul a b na nb e = alone_normal (paired Mul a b) (na, nb, e)
 pair_alone_normal Shr a b na nb e = alone_normal (paired Shr a b) (na, nb, e)
 pair_alone_normal Sar a b na nb e = alone_normal (paired Sar a b) (na, nb, e)
 
+-- so is each with one constant
 pair_scaled_normal : (p : Pair) (x : ℕ) (c a b : PlainSum) → IsNormal c → IsNormal a → IsNormal b → pair p a b ≡ pair_scaled p x c a b → IsNormal (pair_scaled p x c a b)
 pair_scaled_normal And x c a b nc na nb e = pair_alone_normal And a b na nb e
 pair_scaled_normal Or x c a b nc na nb e = pair_alone_normal Or a b na nb e
@@ -77,6 +83,7 @@ pair_scaled_normal Mul x c a b nc na nb e = plus_times_normal (sum 0 none) x c z
 pair_scaled_normal Shr x c a b nc na nb e = pair_alone_normal Shr a b na nb e
 pair_scaled_normal Sar x c a b nc na nb e = pair_alone_normal Sar a b na nb e
 
+-- so is each pair, whatever is constant
 pair_by_normal : (p : Pair) (m n : Option ℕ) (a b : PlainSum) → IsNormal a → IsNormal b → constant_alone a ≡ m → constant_alone b ≡ n → pair p a b ≡ pair_by p m n a b → IsNormal (pair_by p m n a b)
 pair_by_normal p (Some x) (Some y) a b na nb e f h = (pair_number_below p x y (constant_below a x na e) (constant_below b y nb f), tt)
 pair_by_normal p (Some x) None a b na nb e f h = pair_scaled_normal p x b a b nb na nb h
@@ -88,10 +95,12 @@ pub pair_normal : (p : Pair) (a b : PlainSum) → IsNormal a → IsNormal b → 
 unfolding pair
 pair_normal p a b na nb = pair_by_normal p (constant_alone a) (constant_alone b) a b na nb refl refl refl
 
+-- either result is small where both are
 either_nodes : (t : Bool) (c : PlainSum) (a : PlainAtom) (n : ℕ) → nodes c ≤ n → nodes (alone a) ≤ n → nodes (if t then c else alone a) ≤ n
 either_nodes true c a n h i = h
 either_nodes false c a n h i = i
 
+-- a pair without a constant adds two nodes at most
 pair_alone_nodes : (p : Pair) (a b : PlainSum) → nodes (pair_alone p a b) ≤ nodes a + nodes b + 2
 pair_alone_nodes And a b = either_nodes (is_eq (sum_cmp a b)) a (paired And a b) _ (omega arith) (omega arith)
 pair_alone_nodes Or a b = either_nodes (is_eq (sum_cmp a b)) a (paired Or a b) _ (omega arith) (omega arith)
@@ -100,6 +109,7 @@ pair_alone_nodes Mul a b = omega arith
 pair_alone_nodes Shr a b = omega arith
 pair_alone_nodes Sar a b = omega arith
 
+-- so does one with a constant
 pair_scaled_nodes : (p : Pair) (x : ℕ) (c a b : PlainSum) → nodes c ≤ nodes a + nodes b → nodes (pair_scaled p x c a b) ≤ nodes a + nodes b + 2
 pair_scaled_nodes And x c a b h = pair_alone_nodes And a b
 pair_scaled_nodes Or x c a b h = pair_alone_nodes Or a b
@@ -108,12 +118,14 @@ pair_scaled_nodes Mul x c a b h = omega (arith, plus_times_nodes (sum 0 none) x 
 pair_scaled_nodes Shr x c a b h = pair_alone_nodes Shr a b
 pair_scaled_nodes Sar x c a b h = pair_alone_nodes Sar a b
 
+-- so does each pair, whatever is constant
 pair_by_nodes : (p : Pair) (m n : Option ℕ) (a b : PlainSum) → nodes (pair_by p m n a b) ≤ nodes a + nodes b + 2
 pair_by_nodes p (Some x) (Some y) a b = omega arith
 pair_by_nodes p (Some x) None a b = pair_scaled_nodes p x b a b (omega arith)
 pair_by_nodes p None (Some y) a b = pair_scaled_nodes p y a a b (omega arith)
 pair_by_nodes p None None a b = pair_alone_nodes p a b
 
+-- a pair adds two nodes at most
 pub pair_nodes : (p : Pair) (a b : PlainSum) → nodes (pair p a b) ≤ nodes a + nodes b + 2
 unfolding pair
 pair_nodes p a b = pair_by_nodes p (constant_alone a) (constant_alone b) a b
@@ -127,25 +139,30 @@ equal_from Equal e = refl
 equal_from Greater e = absurd (cc)
 
 module _ (u : Valuation) (range : IsInRange u) where
+  -- every value has 64 bits
   pub value_below : (a : PlainSum) → value u a < 2 ^ 64
   value_below (sum c xs) = mod-lt (c + value_of_pieces u xs) (omega arith)
 
+  -- so has that of a symbol
   symbol_below : (s : Sym) → IsSymbol s → value_of_symbol u s < 2 ^ 64
   symbol_below (Entry r) h = range.entries r h
   symbol_below Ra h = range.return_address
   symbol_below FsBase h = range.fs_base
   symbol_below (Named a) h = range.names a
 
+  -- so has that of a normal atom
   atom_below : (a : PlainAtom) → IsNormalAtom a → value_of_atom u a < 2 ^ 64
   atom_below (symbol s) n = symbol_below s n
   atom_below (fitted f a) n = fit_number_below f (value u a)
   atom_below (paired p a b) n = pair_number_below p _ _ (value_below a) (value_below b)
 
+  -- the value of an atom has no more bits than the atom
   atom_bits_below : (a : PlainAtom) → IsNormalAtom a → value_of_atom u a < 2 ^ atom_bits a
   atom_bits_below (symbol s) n = symbol_below s n
   atom_bits_below (fitted f a) n = fit_number_bits f (value u a)
   atom_bits_below (paired p a b) n = atom_below (paired p a b) n
 
+  -- once a number is that number, modulo m
   one_piece : (v m : ℕ) → v < m → (0 + (1 * v + 0)) % m ≡ v
   one_piece v m h = let e : 0 + (1 * v + 0) ≡ v = omega arith in rw e (mod-eq_of_lt h)
 
@@ -153,6 +170,7 @@ module _ (u : Valuation) (range : IsInRange u) where
   pub alone_value : (a : PlainAtom) → value_of_atom u a < 2 ^ 64 → value u (alone a) ≡ value_of_atom u a
   alone_value a h = one_piece (value_of_atom u a) (2 ^ 64) h
 
+  -- a symbol alone has its value
   pub symbol_value : (s : Sym) → IsSymbol s → value u (alone (symbol s)) ≡ value_of_symbol u s
   symbol_value s h = alone_value (symbol s) (symbol_below s h)
 
@@ -160,10 +178,12 @@ module _ (u : Valuation) (range : IsInRange u) where
   pub number_value : (n : ℕ) → n < 2 ^ 64 → value u (sum n none) ≡ n
   number_value n h = let e : n + 0 ≡ n = omega arith in rw e (mod-eq_of_lt h)
 
+  -- a term that is a constant has that value
   pub constant_value : (a : PlainSum) (x : ℕ) → IsNormal a → constant_alone a ≡ Some x → value u a ≡ x
   constant_value (sum c none) x n e = let f : c ≡ x = cc in number_value c n.0 ∙ f
   constant_value (sum c (more b k xs)) x n e = absurd (cc)
 
+  -- a term that stays under a fit has a value that the fit keeps
   stays_value : (f : Fit) (a : PlainSum) → IsNormal a → stays f a ≡ true → value u a ≡ fit_number f (value u a)
   stays_value f (sum c none) n e = absurd (cc)
   stays_value f (sum c (more a k none)) n e =
@@ -177,6 +197,7 @@ module _ (u : Valuation) (range : IsInRange u) where
       rw v (sym (fit_number_same f (value_of_atom u a) below))
   stays_value f (sum c (more a k (more b l ys))) n e = absurd (cc)
 
+  -- a fit has its value, whatever is constant
   fit_by_value : (f : Fit) (m : Option ℕ) (a : PlainSum) → IsNormal a → constant_alone a ≡ m → value u (fit_by f m a) ≡ fit_number f (value u a)
   fit_by_value f (Some c) a n e = number_value _ (fit_number_below f c) ∙ ap (fit_number f) (sym (constant_value a c n e))
   fit_by_value f None a n e =
@@ -190,9 +211,11 @@ module _ (u : Valuation) (range : IsInRange u) where
   unfolding fit
   fit_value f a n = fit_by_value f (constant_alone a) a n refl
 
+  -- an atom of a pair has the value of the pair
   paired_value : (p : Pair) (a b : PlainSum) → value u (alone (paired p a b)) ≡ pair_number p (value u a) (value u b)
   paired_value p a b = alone_value (paired p a b) (pair_number_below p _ _ (value_below a) (value_below b))
 
+  -- so has either result where the equal terms have that value
   either_value : (p : Pair) (a b c : PlainSum) → (a ≡ b → value u c ≡ pair_number p (value u a) (value u b))
       → value u (if is_eq (sum_cmp a b) then c else alone (paired p a b)) ≡ pair_number p (value u a) (value u b)
   either_value p a b c same =
@@ -201,6 +224,7 @@ module _ (u : Valuation) (range : IsInRange u) where
         | false ↦ λ h. paired_value p a b
       ]) refl
 
+  -- a pair without a constant has its value
   pair_alone_value : (p : Pair) (a b : PlainSum) → value u (pair_alone p a b) ≡ pair_number p (value u a) (value u b)
   pair_alone_value And a b = either_value And a b a (λ e. sym (ap (λ c. bit_and (value u a) (value u c)) (sym e) ∙ and_self (value u a)))
   pair_alone_value Or a b = either_value Or a b a (λ e. sym (ap (λ c. bit_or (value u a) (value u c)) (sym e) ∙ or_self (value u a)))
@@ -223,6 +247,7 @@ module _ (u : Valuation) (range : IsInRange u) where
   left_value Shr x a b e = pair_alone_value Shr a b
   left_value Sar x a b e = pair_alone_value Sar a b
 
+  -- the constant is the second of the pair
   right_value : (p : Pair) (y : ℕ) (a b : PlainSum) → value u b ≡ y → value u (pair_scaled p y a a b) ≡ pair_number p (value u a) (value u b)
   right_value And y a b e = pair_alone_value And a b
   right_value Or y a b e = pair_alone_value Or a b
@@ -231,6 +256,7 @@ module _ (u : Valuation) (range : IsInRange u) where
   right_value Shr y a b e = pair_alone_value Shr a b
   right_value Sar y a b e = pair_alone_value Sar a b
 
+  -- each pair has its value, whatever is constant
   pair_by_value : (p : Pair) (m n : Option ℕ) (a b : PlainSum) → IsNormal a → IsNormal b → constant_alone a ≡ m → constant_alone b ≡ n → value u (pair_by p m n a b) ≡ pair_number p (value u a) (value u b)
   pair_by_value p (Some x) (Some y) a b na nb e f =
       number_value _ (pair_number_below p x y (constant_below a x na e) (constant_below b y nb f))

@@ -1,6 +1,5 @@
 -- Coefficients of normal terms: those of a sum, and that they make the term.
-use Rattle.std.proofs.Common.{◌≡◌, ℕ, zero, suc, ◌+◌, ◌*◌, ◌%◌, ◌^◌, ◌<◌, Bool, true, false, if◌then◌else◌, refl, sym, ap, ap₂, subst, ◌∙◌, arith}
-use Rattle.std.specs.declared.cmp.Ordering.{Ordering}
+use Rattle.std.proofs.Common.{◌≡◌, ℕ, zero, suc, ◌+◌, ◌*◌, ◌%◌, ◌^◌, ◌<◌, true, false, if◌then◌else◌, refl, sym, ap, ap₂, subst, ◌∙◌, arith}
 use Rattle.std.specs.declared.cmp.Ordering.TheVariants.{Less, Equal, Greater}
 use Rattle.std.specs.Ordering.{is_eq}
 use Rattle.std.specs.Cmp.{tied_itself}
@@ -18,12 +17,15 @@ absent x none n h = refl
 absent x (more b l ys) n h =
     ap (λ o. if is_eq o then l else coefficient_in x ys) h ∙ absent x ys n.4 (before_trans x b ys h n.3)
 
+-- atoms that compare Equal are the same
 same_from : (x a : PlainAtom) → is_eq (atom_cmp x a) ≡ true → x ≡ a
 same_from x a e = atom_same x a (equal_from (atom_cmp x a) e)
 
+-- an atom that is before all pieces doesn't stand in them
 absent_same : (x a : PlainAtom) (ys : Pieces) → is_eq (atom_cmp x a) ≡ true → AreNormal ys → IsBefore a ys → coefficient_in x ys ≡ 0
 absent_same x a ys e n h = ap (λ y. coefficient_in y ys) (same_from x a e) ∙ absent a ys n h
 
+-- the coefficients after a piece is put in front
 joined_coefficient : (x a : PlainAtom) (k : ℕ) (ys : Pieces) → AreNormal ys → IsBefore a ys
     → coefficient_in x (joined a k ys) ≡ (if is_eq (atom_cmp x a) then k else coefficient_in x ys)
 joined_coefficient x a zero ys n h =
@@ -33,6 +35,7 @@ joined_coefficient x a zero ys n h =
     ]) refl
 joined_coefficient x a (suc k) ys n h = refl
 
+-- coefficients of normal pieces have 64 bits
 coefficient_below : (x : PlainAtom) (ys : Pieces) → AreNormal ys → coefficient_in x ys < 2 ^ 64
 coefficient_below x none n = omega arith
 coefficient_below x (more b l ys) n =
@@ -41,16 +44,20 @@ coefficient_below x (more b l ys) n =
       | false ↦ coefficient_below x ys n.4
     ]
 
+-- a coefficient with 0 added
 nothing_added : (k m c : ℕ) → k < 2 ^ 64 → c ≡ 0 → k ≡ (k + m * c) % 2 ^ 64
 nothing_added k m c h e = let f : k ≡ (k + m * 0) % 2 ^ 64 = omega arith in f ∙ ap (λ c. (k + m * c) % 2 ^ 64) (sym e)
 
+-- a coefficient added to 0
 added_to_nothing : (n c : ℕ) → c ≡ 0 → n % 2 ^ 64 ≡ (c + n) % 2 ^ 64
 added_to_nothing n c e = let f : n % 2 ^ 64 ≡ (0 + n) % 2 ^ 64 = omega arith in f ∙ ap (λ c. (c + n) % 2 ^ 64) (sym e)
 
+-- the coefficient that a sum should have at x
 abbrev sum_at : PlainAtom → Pieces → ℕ → Pieces → ℕ
 sum_at x xs m ys = (coefficient_in x xs + m * coefficient_in x ys) % 2 ^ 64
 
 module _ (x : PlainAtom) (m : ℕ) where
+  -- the merge has the sums of the coefficients
   coefficients_in : (xs ys : Pieces) → AreNormal xs → AreNormal ys → coefficient_in x (plus_times_pieces xs m ys) ≡ sum_at x xs m ys
   coefficients_in none none nx ny = nothing_added 0 m 0 (omega arith) refl
   coefficients_in none (more b l ys) nx ny =
@@ -99,6 +106,7 @@ pub plus_times_coefficient : (x : PlainAtom) (a : PlainSum) (m : ℕ) (b : Plain
 unfolding plus_times
 plus_times_coefficient x (sum c xs) m (sum d ys) na nb = coefficients_in x m xs ys na.1 nb.1
 
+-- the constant of a + m * b
 pub plus_times_constant : (a : PlainSum) (m : ℕ) (b : PlainSum) → constant_of (plus_times a m b) ≡ (constant_of a + m * constant_of b) % 2 ^ 64
 unfolding plus_times
 plus_times_constant (sum c xs) m (sum d ys) = refl

@@ -40,6 +40,7 @@ within_some a b =
       | false ↦ λ t e. absurd (cc)
     ]) refl
 
+-- the laws of the limit
 pub limits : LimitLaws
 limits = record { small = within_small; large = within_large; some = within_some }
 

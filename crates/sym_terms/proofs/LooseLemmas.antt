@@ -1,5 +1,5 @@
 -- The normal form of any term: it is normal, has the term's value, and leaves a normal term as it is.
-use Rattle.std.proofs.Common.{◌≡◌, ℕ, zero, suc, ◌+◌, ◌*◌, ◌%◌, ◌^◌, ◌<◌, refl, sym, ap, ap₂, ◌∙◌, arith}
+use Rattle.std.proofs.Common.{◌≡◌, ℕ, zero, suc, ◌+◌, ◌*◌, ◌%◌, ◌^◌, ◌<◌, refl, ap, ap₂, ◌∙◌, arith}
 use Rattle.std.proofs.Math.Nat.{add-mod-mod, mod-add-mod, add_comm, mod-lt}
 use Rattle.std.specs.declared.cmp.Ordering.TheVariants.{Less, Equal, Greater}
 use Rattle.std.specs.Ordering.{ordering_reverse}
@@ -19,11 +19,13 @@ mutual
   normal_normal (sum c xs) h =
       plus_times_normal (normal_pieces xs) 1 (sum (c % 2 ^ 64) none) (normal_pieces_normal xs h) (mod-lt c (omega arith), tt)
 
+  -- so is the sum of pieces
   normal_pieces_normal : (xs : Pieces) → HaveSymbols xs → IsNormal (normal_pieces xs)
   normal_pieces_normal none h = (omega arith, tt)
   normal_pieces_normal (more a k xs) h =
       plus_times_normal (normal_pieces xs) k (normal_atom a) (normal_pieces_normal xs h.1) (normal_atom_normal a h.0)
 
+  -- so is one atom
   normal_atom_normal : (a : PlainAtom) → AtomHasSymbols a → IsNormal (normal_atom a)
   normal_atom_normal (symbol s) h = alone_normal (symbol s) h
   normal_atom_normal (fitted f a) h = fit_normal f (normal a) (normal_normal a h)
@@ -38,6 +40,7 @@ with_constant c x y m e =
     ∙ ap (λ n. (n + (c % m + 0)) % m) e ∙ mod-add-mod x m (c % m + 0)
     ∙ ap (λ n. n % m) same ∙ mod-add-mod c m x
 
+-- the value with one more piece, modulo m
 with_piece : (k v w x y m : ℕ) → v ≡ w → y ≡ x % m → (y + k * v) % m ≡ (k * w + x) % m
 with_piece k v w x y m e f =
     ap (λ n. (n + k * v) % m) f ∙ mod-add-mod x m (k * v) ∙ ap (λ n. n % m) (add_comm x (k * v)) ∙ ap (λ n. (k * n + x) % m) e
@@ -50,12 +53,14 @@ module _ (u : Valuation) (range : IsInRange u) where
         plus_times_value u (normal_pieces xs) 1 (sum (c % 2 ^ 64) none)
         ∙ with_constant c (value_of_pieces u xs) _ (2 ^ 64) (normal_pieces_value xs h)
 
+    -- so does the sum of pieces
     normal_pieces_value : (xs : Pieces) → HaveSymbols xs → value u (normal_pieces xs) ≡ value_of_pieces u xs % 2 ^ 64
     normal_pieces_value none h = refl
     normal_pieces_value (more a k xs) h =
         plus_times_value u (normal_pieces xs) k (normal_atom a)
         ∙ with_piece k _ (value_of_atom u a) (value_of_pieces u xs) _ (2 ^ 64) (normal_atom_value a h.0) (normal_pieces_value xs h.1)
 
+    -- so does one atom
     normal_atom_value : (a : PlainAtom) → AtomHasSymbols a → value u (normal_atom a) ≡ value_of_atom u a
     normal_atom_value (symbol s) h = symbol_value u range s h
     normal_atom_value (fitted f a) h = fit_value u range f (normal a) (normal_normal a h) ∙ ap (fit_number f) (normal_value a h)
@@ -63,10 +68,12 @@ module _ (u : Valuation) (range : IsInRange u) where
         pair_value u range p (normal a) (normal b) (normal_normal a h.0) (normal_normal b h.1)
         ∙ ap₂ (pair_number p) (normal_value a h.0) (normal_value b h.1)
 
+-- k times a coefficient of 1 is k
 joined_one : (a : PlainAtom) (k : ℕ) (xs : Pieces) → 0 < k → k < 2 ^ 64 → joined a (k * 1 % 2 ^ 64) xs ≡ more a k xs
 joined_one a zero xs h i = absurd (omega arith)
 joined_one a (suc k) xs h i = let e : suc k * 1 % 2 ^ 64 ≡ suc k = omega arith in rw e refl
 
+-- an atom after another, seen from that one
 after : (a b : PlainAtom) → atom_cmp a b ≡ Less → atom_cmp b a ≡ Greater
 after a b e = atom_total.antisymm b a ∙ ap ordering_reverse e
 
@@ -81,14 +88,17 @@ in_front a k (more b l ys) h i before =
     ]) (after a b before)
     ∙ joined_one a k (more b l ys) h i
 
+-- one more atom before all pieces
 one_more : (a : PlainAtom) (k : ℕ) (xs : Pieces) → 0 < k → k < 2 ^ 64 → IsBefore a xs → plus_times (sum 0 xs) k (alone a) ≡ sum 0 (more a k xs)
 unfolding plus_times
 one_more a k xs h i before = ap₂ sum (let e : (0 + k * 0) % 2 ^ 64 ≡ 0 = omega arith in e) (in_front a k xs h i before)
 
+-- pieces with none added
 no_pieces : (xs : Pieces) → plus_times_pieces xs 1 none ≡ xs
 no_pieces none = refl
 no_pieces (more a k xs) = refl
 
+-- pieces with a constant added
 one_constant : (c : ℕ) (xs : Pieces) → c < 2 ^ 64 → plus (sum 0 xs) (sum (c % 2 ^ 64) none) ≡ sum c xs
 unfolding plus_times
 one_constant c xs h = ap₂ sum (let e : (0 + 1 * (c % 2 ^ 64)) % 2 ^ 64 ≡ c = omega arith in e) (no_pieces xs)
@@ -98,11 +108,13 @@ mutual
   pub normal_same : (a : PlainSum) → IsNormal a → normal a ≡ a
   normal_same (sum c xs) n = ap (λ s. plus s (sum (c % 2 ^ 64) none)) (normal_pieces_same xs n.1) ∙ one_constant c xs n.0
 
+  -- so are normal pieces
   normal_pieces_same : (xs : Pieces) → AreNormal xs → normal_pieces xs ≡ sum 0 xs
   normal_pieces_same none n = refl
   normal_pieces_same (more a k xs) n =
       ap₂ (λ s t. plus_times s k t) (normal_pieces_same xs n.4) (normal_atom_same a n.0) ∙ one_more a k xs n.1 n.2 n.3
 
+  -- so is a normal atom
   normal_atom_same : (a : PlainAtom) → IsNormalAtom a → normal_atom a ≡ alone a
   normal_atom_same (symbol s) n = refl
   normal_atom_same (fitted f a) n = ap (fit f) (normal_same a n.0) ∙ n.1

@@ -16,10 +16,12 @@ abbrev pub front : List (Atom × ℕ) → Pieces → Pieces
 front [] rest = rest
 front (x ∷ xs) rest = more (plain x.0) x.1 (front xs rest)
 
+-- written pieces in two parts
 front-append : (xs ys : List (Atom × ℕ)) (rest : Pieces) → front (xs ++ ys) rest ≡ front xs (front ys rest)
 front-append [] ys rest = refl
 front-append (x ∷ xs) ys rest = ap (more (plain x.0) x.1) (front-append xs ys rest)
 
+-- written pieces with no rest
 front-none : (xs : List (Atom × ℕ)) → front xs none ≡ pieces xs
 front-none [] = refl
 front-none (x ∷ xs) = ap (more (plain x.0) x.1) (front-none xs)
@@ -31,9 +33,11 @@ front-piece out a zero rest = front-append out [] rest
 front-piece out a (suc k) rest = front-append out _ rest
 
 module _ (m : ℕ) (xs ys : List (Atom × ℕ)) (i j : ℕ) (x y : Atom × ℕ) (at_x : x ≡ slice_index_or xs i x) (in_x : i < length xs) (at_y : y ≡ slice_index_or ys j y) (in_y : j < length ys) where
+  -- the pieces after the first of the left
   abbrev left : Pieces
   left = pieces (drop (i + 1) xs)
 
+  -- the pieces after the first of the right
   abbrev right : Pieces
   right = pieces (drop (j + 1) ys)
 
@@ -45,6 +49,7 @@ module _ (m : ℕ) (xs ys : List (Atom × ℕ)) (i j : ℕ) (x y : Atom × ℕ) 
     | Greater ↦ joined (plain y.0) (m * y.1 % 2 ^ 64) (plus_times_pieces (more (plain x.0) x.1 left) m right)
   ]
 
+  -- the merge at two atoms
   both_at : plus_times_pieces (pieces (drop i xs)) m (pieces (drop j ys)) ≡ chosen (atom_cmp (plain x.0) (plain y.0))
   both_at = ap₂ (λ r s. plus_times_pieces r m s) (pieces_at xs i x at_x in_x) (pieces_at ys j y at_y in_y)
 
@@ -57,6 +62,7 @@ module _ (m : ℕ) (xs ys : List (Atom × ℕ)) (i j : ℕ) (x y : Atom × ℕ) 
       ∙ ap (λ r. front out (more (plain x.0) x.1 (plus_times_pieces left m r))) (pieces_at ys j y at_y in_y)
       ∙ ap (λ o. front out (chosen o)) (sym e) ∙ ap (front out) (sym both_at)
 
+  -- the same where the atoms are equal
   pub equal_at : (out : List (Atom × ℕ)) → atom_cmp (plain x.0) (plain y.0) ≡ Equal
       → front (out ++ piece_or_none x.0 ((x.1 + m * y.1 % 2 ^ 64) % 2 ^ 64)) (plus_times_pieces (pieces (drop (i + 1) xs)) m (pieces (drop (j + 1) ys)))
       ≡ front out (plus_times_pieces (pieces (drop i xs)) m (pieces (drop j ys)))
@@ -65,6 +71,7 @@ module _ (m : ℕ) (xs ys : List (Atom × ℕ)) (i j : ℕ) (x y : Atom × ℕ) 
       ∙ ap (λ n. front out (joined (plain x.0) n (plus_times_pieces left m right))) (add-mod-mod x.1 (m * y.1) (2 ^ 64))
       ∙ ap (λ o. front out (chosen o)) (sym e) ∙ ap (front out) (sym both_at)
 
+  -- the same where the right one comes first
   pub greater_at : (out : List (Atom × ℕ)) → atom_cmp (plain x.0) (plain y.0) ≡ Greater
       → front (out ++ piece_or_none y.0 (m * y.1 % 2 ^ 64)) (plus_times_pieces (pieces (drop i xs)) m (pieces (drop (j + 1) ys)))
       ≡ front out (plus_times_pieces (pieces (drop i xs)) m (pieces (drop j ys)))
@@ -80,6 +87,7 @@ multiples_at m out xs i x e h =
     append_assoc out (piece_or_none x.0 (m * x.1 % 2 ^ 64)) (multiples m (drop (i + 1) xs))
     ∙ ap (λ r. out ++ multiples m r) (sym (drop_more xs i x h ∙ ap (λ y. y ∷ drop (i + 1) xs) (sym e)))
 
+-- a piece in front, as a list
 joined_piece : (a : Atom) (k : ℕ) (xs : List (Atom × ℕ)) → joined (plain a) k (pieces xs) ≡ pieces (piece_or_none a k ++ xs)
 joined_piece a zero xs = refl
 joined_piece a (suc k) xs = refl
@@ -97,6 +105,7 @@ ended m (x ∷ xs) [] h = sym (ap pieces (append-nil (x ∷ xs)))
 ended m (x ∷ xs) (y ∷ ys) (inl e) = absurd (cc)
 ended m (x ∷ xs) (y ∷ ys) (inr e) = absurd (cc)
 
+-- what is left after the loop is written behind
 pub written : (m : ℕ) (xs ys out out2 out3 : List (Atom × ℕ)) (i j : ℕ)
     → out2 ≡ out ++ take (length xs - i) (drop i xs) → out3 ≡ out2 ++ multiples m (take (length ys - j) (drop j ys)) → (length xs ≤ i) ⊎ (length ys ≤ j)
     → pieces out3 ≡ front out (plus_times_pieces (pieces (drop i xs)) m (pieces (drop j ys)))

@@ -1,5 +1,5 @@
 -- Numbers of fits and pairs: how large they are, and which of them a fit leaves as they are.
-use Rattle.std.proofs.Common.{◌≡◌, ℕ, ◌*◌, ◌/◌, ◌%◌, ◌^◌, ◌<◌, ℤ, pos, negsuc, arith}
+use Rattle.std.proofs.Common.{◌≡◌, ℕ, ◌%◌, ◌^◌, ◌<◌, ℤ, pos, negsuc, arith}
 use Rattle.std.proofs.lemmas.Nat.{and_le_l, or_lt, xor_lt}
 use Rattle.std.proofs.Math.Nat.{div-le_self}
 use Rattle.bits_core.specs.declared.width.Width.TheVariants.{W8, W16, W32, W64}

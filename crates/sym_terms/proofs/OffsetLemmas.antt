@@ -10,12 +10,14 @@ use Rattle.sym_terms.specs.Codes.{atom_same, pieces_same, atom_total, pieces_tot
 use Rattle.sym_terms.specs.Normal.{joined, plus_times_pieces, plus_times, minus, IsNormal, AreNormal}
 use Rattle.sym_terms.proofs.AtomLemmas.{equal_from}
 
+-- a number less itself is 0
 cancelled : (k : ℕ) → (k + (2 ^ 64 - 1) * k) % 2 ^ 64 ≡ 0
 cancelled k = omega arith
 
 uncancelled : (k l : ℕ) → k < 2 ^ 64 → 0 < l → l < 2 ^ 64 → (k + (2 ^ 64 - 1) * l) % 2 ^ 64 ≡ 0 → k ≡ l
 uncancelled k l h i j e = omega arith
 
+-- a number that isn't 0, times -1, isn't 0
 negative : (l : ℕ) → 0 < l → l < 2 ^ 64 → 0 < (2 ^ 64 - 1) * l % 2 ^ 64
 negative l h i = omega arith
 
@@ -35,6 +37,7 @@ itself_gone (more a k xs) =
     ∙ ap (λ n. joined a n (plus_times_pieces xs (2 ^ 64 - 1) xs)) (cancelled k)
     ∙ itself_gone xs
 
+-- nothing is left of a piece and a rest only where neither is there
 joined_none : (a : PlainAtom) (k : ℕ) (xs : Pieces) → joined a k xs ≡ none → (k ≡ 0) × (xs ≡ none)
 joined_none a zero xs e = (refl, e)
 joined_none a (suc k) xs e = absurd (cc)
@@ -57,13 +60,16 @@ gone_same (more a k xs) (more b l ys) nx ny e =
       | Greater ↦ λ o g. let p = still_there b l (plus_times_pieces (more a k xs) (2 ^ 64 - 1) ys) ny.1 ny.2 g in absurd (cc)
     ]) refl e
 
+-- pieces that are there make no constant
 not_none : (c : ℕ) (xs : Pieces) → (xs ≡ none → ⊥) → constant_alone (sum c xs) ≡ None
 not_none c none h = absurd (h refl)
 not_none c (more a k xs) h = refl
 
+-- to add the complement is to add -1 times the number
 wrapped : (c d : ℕ) → d < 2 ^ 64 → (c + (2 ^ 64 - d)) % 2 ^ 64 ≡ (c + (2 ^ 64 - 1) * d) % 2 ^ 64
 wrapped c d h = omega arith
 
+-- equal pieces have the constant difference
 same_offset : (c d : ℕ) (xs ys : Pieces) → d < 2 ^ 64 → is_eq (pieces_cmp xs ys) ≡ true → Some ((c + (2 ^ 64 - d)) % 2 ^ 64) ≡ constant_alone (minus (sum c xs) (sum d ys))
 unfolding plus_times
 same_offset c d xs ys h e =
@@ -71,6 +77,7 @@ same_offset c d xs ys h e =
     ∙ sym (ap (λ zs. constant_alone (sum ((c + (2 ^ 64 - 1) * d) % 2 ^ 64) zs))
     (ap (λ zs. plus_times_pieces zs (2 ^ 64 - 1) ys) (pieces_same xs ys (equal_from _ e)) ∙ itself_gone ys))
 
+-- other pieces have none
 other_offset : (c d : ℕ) (xs ys : Pieces) → AreNormal xs → AreNormal ys → is_eq (pieces_cmp xs ys) ≡ false → None ≡ constant_alone (minus (sum c xs) (sum d ys))
 unfolding plus_times
 other_offset c d xs ys nx ny e =
@@ -79,9 +86,11 @@ other_offset c d xs ys nx ny e =
     absurd (cc)))
 
 module _ (a b : PlainSum) (c d : ℕ) (xs ys : Pieces) (is_a : sum c xs ≡ a) (is_b : sum d ys ≡ b) (na : IsNormal a) (nb : IsNormal b) where
+  -- the first term is normal
   normal_a : IsNormal (sum c xs)
   normal_a = subst IsNormal (sym is_a) na
 
+  -- so is the second
   normal_b : IsNormal (sum d ys)
   normal_b = subst IsNormal (sym is_b) nb
 
@@ -89,5 +98,6 @@ module _ (a b : PlainSum) (c d : ℕ) (xs ys : Pieces) (is_a : sum c xs ≡ a) (
   pub offset_known : is_eq (pieces_cmp xs ys) ≡ true → Some ((c + (2 ^ 64 - d)) % 2 ^ 64) ≡ constant_alone (minus a b)
   offset_known e = same_offset c d xs ys normal_b.0 e ∙ ap₂ (λ s t. constant_alone (minus s t)) is_a is_b
 
+  -- and where the pieces differ
   pub offset_unknown : is_eq (pieces_cmp xs ys) ≡ false → None ≡ constant_alone (minus a b)
   offset_unknown e = other_offset c d xs ys normal_a.1 normal_b.1 e ∙ ap₂ (λ s t. constant_alone (minus s t)) is_a is_b

@@ -45,6 +45,7 @@ ended_lengths (x ∷ xs) [] (suc n) e = absurd (omega arith)
 ended_lengths (x ∷ xs) (y ∷ ys) zero e = absurd (omega arith)
 ended_lengths (x ∷ xs) (y ∷ ys) (suc n) e = one_longer _ (length xs) (length ys) (ended_lengths xs ys n (omega arith))
 
+-- the order where one list has ended is that of the lengths
 pub one_ended : (xs ys : List (Atom × ℕ)) (n : ℕ) → n ≡ min (length xs) (length ys)
     → pieces_cmp (pieces (drop n xs)) (pieces (drop n ys)) ≡ nat_cmp (length xs) (length ys)
 one_ended xs ys n e = nat_cmp_is (length xs) (length ys) _ (ended_lengths xs ys n e)
@@ -70,13 +71,16 @@ module _ (xs ys : List (Atom × ℕ)) (i : ℕ) (x y : Atom × ℕ) (at_x : x �
   abbrev here : Ordering
   here = ordering_then (atom_cmp (plain x.0) (plain y.0)) (nat_cmp x.1 y.1)
 
+  -- the order from an index on is that of the two pieces, then of the rest
   heads : pieces_cmp (pieces (drop i xs)) (pieces (drop i ys))
       ≡ ordering_then (atom_cmp (plain x.0) (plain y.0)) (ordering_then (nat_cmp x.1 y.1) (pieces_cmp (pieces (drop (i + 1) xs)) (pieces (drop (i + 1) ys))))
   heads = ap₂ pieces_cmp (pieces_at xs i x at_x in_x) (pieces_at ys i y at_y in_y)
 
+  -- it is decided at this index
   pub decided_at : (o : Ordering) → o ≡ here → is_ne o ≡ true → o ≡ pieces_cmp (pieces (drop i xs)) (pieces (drop i ys))
   decided_at o e h = e ∙ sym (decides (atom_cmp (plain x.0) (plain y.0)) (nat_cmp x.1 y.1) _ (ap is_ne (sym e) ∙ h)) ∙ sym heads
 
+  -- it is left to the rest
   pub deferred_at : (o : Ordering) → o ≡ here → is_ne o ≡ false
       → pieces_cmp (pieces (drop (i + 1) xs)) (pieces (drop (i + 1) ys)) ≡ pieces_cmp (pieces (drop i xs)) (pieces (drop i ys))
   deferred_at o e h = sym (defers (atom_cmp (plain x.0) (plain y.0)) (nat_cmp x.1 y.1) _ (ap is_ne (sym e) ∙ h)) ∙ sym heads

@@ -11,7 +11,7 @@ use Rattle.sym_terms.specs.Nodes.{nodes}
 use Rattle.sym_terms.specs.Order.{sum_cmp, atom_cmp}
 use Rattle.sym_terms.specs.Mentions.{mentions}
 use Rattle.sym_terms.specs.Numbers.{fit_number, pair_number}
-use Rattle.sym_terms.specs.Value.{Valuation, IsInRange, value, value_of_symbol}
+use Rattle.sym_terms.specs.Value.{Valuation, value, value_of_symbol}
 use Rattle.sym_terms.specs.Normal.{plus, minus, times, plus_times, fit, pair, IsNormal, within}
 use Rattle.sym_terms.specs.Loose.{normal, HasSymbols}
 

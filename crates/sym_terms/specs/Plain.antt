@@ -1,5 +1,5 @@
 -- What a symbolic term is as plain data: a constant, and atoms with their coefficients.
-use Rattle.std.specs.Prelude.{◌≡◌, ℕ, ◌<◌, ◌^◌, Option, Some, None}
+use Rattle.std.specs.Prelude.{ℕ, ◌<◌, ◌^◌, Option, Some, None}
 use Rattle.sym_terms.specs.declared.kinds.Sym.{Sym}
 use Rattle.sym_terms.specs.declared.kinds.Sym.TheVariants.{Entry, Ra, FsBase, Named}
 use Rattle.sym_terms.specs.declared.kinds.Fit.{Fit}

@@ -1,4 +1,4 @@
-ghost use Rattle.std.specs.Prelude.{◌≡◌, ◌++◌, ◌*◌, ◌%◌, ◌^◌, IfOk, OnOk};
+ghost use Rattle.std.specs.Prelude.{◌≡◌, ◌++◌, IfOk, OnOk};
 ghost use Rattle.sym_terms.specs.View.{pieces, piece_or_none, multiples};
 ghost use Rattle.sym_terms.specs.Normal.{plus_times, plus_times_pieces};
 

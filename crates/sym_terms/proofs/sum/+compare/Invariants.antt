@@ -1,4 +1,4 @@
-use Rattle.std.proofs.Common.{◌≡◌, ◌≤◌, length, drop}
+use Rattle.std.proofs.Common.{◌≡◌, length, drop}
 use Rattle.sym_terms.specs.View.{pieces}
 use Rattle.sym_terms.specs.Order.{pieces_cmp}
 use Rattle.sym_terms.proofs.sum.+compare.Given as goal
