@@ -1,6 +1,6 @@
 -- Products and quotients of signed numbers in 128 bits.
-use Rattle.std.proofs.Common.{◌≡◌, ℕ, suc, ◌+◌, ◌*◌, ◌-◌, ◌/◌, ◌%◌, ◌^◌, ◌<◌, ◌≤◌, true, false, Bool, ℤ, pos, negsuc, neg_ℤ, ◌+ℤ◌, ◌-ℤ◌, ◌*ℤ◌, ◌≤ℤ◌, ◌<ℤ◌, to_z, of_z, FitsSigned, refl, sym, ap, subst, ◌∙◌, arith}
-use Rattle.std.specs.Prelude.{unsigned_abs, int_div, int_rem, Option, Some, None, if◌then◌else◌}
+use Rattle.std.proofs.Common.{◌≡◌, ℕ, suc, ◌-◌, ◌/◌, ◌%◌, ◌^◌, ◌<◌, ◌≤◌, true, false, Bool, ℤ, pos, negsuc, neg_ℤ, ◌+ℤ◌, ◌*ℤ◌, ◌≤ℤ◌, ◌<ℤ◌, of_z, FitsSigned, refl, sym, ap, subst, ◌∙◌, arith}
+use Rattle.std.specs.Prelude.{unsigned_abs, int_div, int_rem, Some, None, if◌then◌else◌}
 use Rattle.std.specs.Int.{w128, int_wrapping_div}
 use Rattle.std.proofs.lemmas.Bool.Decides.{nat_tests}
 use Rattle.std.proofs.lemmas.Int.{ints, fits_signed_mul, fits_signed_from_abs, to_z-of_z, rem_is}
@@ -128,9 +128,9 @@ joined_back w high low m x y n e f g h =
     let small : back (pos (cut_of w low)) ≡ pos (cut_of w low) = omega (arith, ints) in
     let low_is : back y ≡ integer_of w false low = ap back (f ∙ unsigned_is w low) ∙ small ∙ sym (unsigned_is w low) in
     let product : back (back x *ℤ back (back n +ℤ pos 1)) ≡ integer_of w true high *ℤ pos (2 ^ bits_of w) =
-        ap (λ i. back (i *ℤ back (back n +ℤ pos 1))) (signed_back w high x e)
-        ∙ ap (λ i. back (integer_of w true high *ℤ i)) scale
-        ∙ to_z-of_z w128 (integer_of w true high *ℤ pos (2 ^ bits_of w)) (scaled_fits w (integer_of w true high) range.0 range.1) in
+    ap (λ i. back (i *ℤ back (back n +ℤ pos 1))) (signed_back w high x e)
+    ∙ ap (λ i. back (integer_of w true high *ℤ i)) scale
+    ∙ to_z-of_z w128 (integer_of w true high *ℤ pos (2 ^ bits_of w)) (scaled_fits w (integer_of w true high) range.0 range.1) in
     ap (λ i. back (i +ℤ back y)) product
     ∙ ap (λ i. back (integer_of w true high *ℤ pos (2 ^ bits_of w) +ℤ i)) low_is
     ∙ to_z-of_z w128 (joined_of w true high low) (joined_of_fits w high low)

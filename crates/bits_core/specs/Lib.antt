@@ -5,3 +5,4 @@ pub mod Arithmetic
 pub mod Condition
 pub mod Shifts
 pub mod Wide
+pub mod Laws

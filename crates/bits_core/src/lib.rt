@@ -6,15 +6,21 @@ mod arithmetic;
 mod condition;
 mod flags;
 mod integers;
+mod laws;
 mod low_bits;
 mod operations;
+#[cfg(test)]
+mod recorded;
 mod shifts;
+#[cfg(test)]
+mod tests;
 mod wide;
 mod width;
 
 pub use arithmetic::alu;
 pub use condition::cond;
 pub use flags::Flags;
+pub use laws::{arithmetic_laws, comparison_laws};
 pub use low_bits::{cut, low_bits_laws, sext};
 pub use operations::{Alu, Shift};
 pub use shifts::shift;
