@@ -1,0 +1,10 @@
+pub mod PieceLemmas
+pub mod NumberLemmas
+pub mod MergeLemmas
+pub mod SumLemmas
+pub mod AtomLemmas
+pub mod OffsetLemmas
+pub mod LooseLemmas
+pub mod CoefficientLemmas
+pub mod MentionLemmas
+pub mod LawLemmas

@@ -1,0 +1,12 @@
+pub mod Plain
+pub mod View
+pub mod Nodes
+pub mod Falls
+pub mod Order
+pub mod Codes
+pub mod Mentions
+pub mod Numbers
+pub mod Value
+pub mod Normal
+pub mod Loose
+pub mod Laws

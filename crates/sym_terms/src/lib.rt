@@ -1,0 +1,21 @@
+//! Symbolic terms: sums of atoms with coefficients, modulo 2^64, in a normal form that decides what is
+//! equal. Terms are made by calls alone, keep the normal form at every level, and have at most 32 nodes.
+
+#![tactic(auto)]
+
+mod atoms;
+mod kinds;
+mod laws;
+mod linear;
+mod memory;
+mod numbers;
+mod sum;
+mod term;
+#[cfg(test)]
+mod tests;
+
+pub use kinds::{Fit, Pair, Sym};
+pub use laws::term_laws;
+pub use memory::NoMemory;
+pub use sum::{Atom, Sum};
+pub use term::Term;

@@ -1,0 +1,101 @@
+ghost use Rattle.std.specs.Prelude.{◌≡◌, ◌++◌, IfOk, OnOk};
+ghost use Rattle.sym_terms.specs.View.{pieces, piece_or_none, multiples};
+ghost use Rattle.sym_terms.specs.Normal.{plus_times, plus_times_pieces};
+
+use crate::memory::NoMemory;
+use crate::sum::{Atom, Sum};
+use sqlite_items::Items;
+use std::alloc::Global;
+use std::cmp::Ordering;
+
+/// `left + factor * right` of sums in normal form, by one merge, whatever the nodes of the result.
+#[tactic(auto, unfolding(crate::specs::Normal::plus_times))]
+pub fn add_scaled(alloc: Global, left: &Sum, factor: u64, right: &Sum) -> Result<Sum, NoMemory>
+    ensures { IfOk result (λ s. s ≡ plus_times left.now factor right.now) }
+{
+    let atoms = merge(alloc, left.atoms.as_slice(), factor, right.atoms.as_slice())?;
+    Ok(Sum {
+        constant: left
+            .constant
+            .wrapping_add(factor.wrapping_mul(right.constant)),
+        atoms,
+    })
+}
+
+fn merge(
+    alloc: Global,
+    left: &[(Atom, u64)],
+    factor: u64,
+    right: &[(Atom, u64)],
+) -> Result<Items<(Atom, u64)>, NoMemory>
+    ensures { IfOk result (λ out. pieces out ≡ plus_times_pieces (pieces left.now) factor (pieces right.now)) }
+{
+    let mut out = Items::new(alloc);
+    let mut i = 0;
+    let mut j = 0;
+    while i < left.len() && j < right.len() {
+        let (a, k) = &left[i];
+        let (b, l) = &right[j];
+        match a.compare(b) {
+            Ordering::Less => {
+                out.push((a.copy(alloc)?, *k))?;
+                i += 1;
+            }
+            Ordering::Equal => {
+                let coefficient = k.wrapping_add(factor.wrapping_mul(*l));
+                push_piece(alloc, &mut out, a, coefficient)?;
+                i += 1;
+                j += 1;
+            }
+            Ordering::Greater => {
+                push_piece(alloc, &mut out, b, factor.wrapping_mul(*l))?;
+                j += 1;
+            }
+        }
+    }
+    push_copies(alloc, &mut out, &left[i..])?;
+    push_multiples(alloc, &mut out, factor, &right[j..])?;
+    Ok(out)
+}
+
+// A coefficient of 0 leaves no piece.
+fn push_piece(
+    alloc: Global,
+    out: &mut Items<(Atom, u64)>,
+    atom: &Atom,
+    coefficient: u64,
+) -> Result<(), NoMemory>
+    ensures { OnOk result (out.new ≡ out.old ++ piece_or_none atom.now coefficient) }
+{
+    if coefficient != 0 {
+        out.push((atom.copy(alloc)?, coefficient))?;
+    }
+    Ok(())
+}
+
+fn push_copies(
+    alloc: Global,
+    out: &mut Items<(Atom, u64)>,
+    atoms: &[(Atom, u64)],
+) -> Result<(), NoMemory>
+    ensures { OnOk result (out.new ≡ out.old ++ atoms.now) }
+{
+    for (atom, coefficient) in atoms {
+        out.push((atom.copy(alloc)?, *coefficient))?;
+    }
+    Ok(())
+}
+
+fn push_multiples(
+    alloc: Global,
+    out: &mut Items<(Atom, u64)>,
+    factor: u64,
+    atoms: &[(Atom, u64)],
+) -> Result<(), NoMemory>
+    ensures { OnOk result (out.new ≡ out.old ++ multiples factor atoms.now) }
+{
+    for (atom, coefficient) in atoms {
+        push_piece(alloc, out, atom, factor.wrapping_mul(*coefficient))?;
+    }
+    Ok(())
+}
