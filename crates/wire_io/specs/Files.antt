@@ -38,4 +38,7 @@ given step place file room = min (min (length file - place) room) step
 -- a shelf after one call, which failed or did not
 abbrev pub after_read : ShelfState → Bool → ShelfState
 after_read shelf failed =
-    record shelf { calls = raised shelf.calls; faults = cond failed (raised shelf.faults) shelf.faults }
+    record shelf {
+      calls = raised shelf.calls;
+      faults = cond failed (raised shelf.faults) shelf.faults;
+    }

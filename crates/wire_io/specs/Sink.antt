@@ -13,6 +13,6 @@ IsFull room written =
     (most : ℕ) (bytes : List ℕ) → room ≡ Some most → written ≡ Some bytes → most ≤ length bytes
 
 -- The room stays as it is, and a stall that was counted shows that none is left.
-pub record KeepsRoom (room later_room : Option ℕ) (stalls later_stalls : ℕ) (written : Option (List ℕ)) : Type 0 where
-  pub same : later_room ≡ room
-  pub stall : (later_stalls ≡ stalls) ⊎ IsFull later_room written
+pub record KeepsRoom (room later : Option ℕ) (stalls now : ℕ) (written : Option (List ℕ)) : Type 0 where
+  pub same : later ≡ room
+  pub stall : (now ≡ stalls) ⊎ IsFull later written

@@ -1,5 +1,5 @@
 -- Streams in memory as plain data, and what a write to them takes and leaves.
-use Rattle.std.specs.Prelude.{ℕ, ◌-◌, ◌==◌, ◌&&◌, not, min, Bool, cond, List, ◌++◌, length, take}
+use Rattle.std.specs.Prelude.{ℕ, ◌==◌, ◌&&◌, not, min, cond, List, ◌++◌, length, take}
 use Rattle.wire_io.specs.Counts.{raised}
 
 -- a stream: its bytes and its room, the most bytes of one write, the calls that fail, and counts

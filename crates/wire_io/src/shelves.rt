@@ -26,7 +26,13 @@ impl Model for MemShelf {
 
     ghost Value = { ShelfState };
 
-    ghost view = { λ s. record { files = plain_files s.files.items; step = s.step; failing = s.failing.items; calls = s.calls; faults = s.faults } };
+    ghost view = { λ s. record {
+      files = plain_files s.files.items;
+      step = s.step;
+      failing = s.failing.items;
+      calls = s.calls;
+      faults = s.faults;
+    } };
 
     ghost invariant = { λ s. 1 ≤ s.step };
 }
@@ -36,7 +42,13 @@ impl MemShelf {
     /// at most `step` bytes, and the reads with a number in `failing` fail.
     pub fn new(files: Vec<(String, Vec<u8>)>, step: u64, failing: Vec<u64>) -> MemShelf
         requires { 1 ≤ step }
-        ensures { result ≡ record { files = plain_files files.items; step = step; failing = failing.items; calls = 0; faults = 0 } }
+        ensures { result ≡ record {
+          files = plain_files files.items;
+          step = step;
+          failing = failing.items;
+          calls = 0;
+          faults = 0;
+        } }
     {
         MemShelf {
             files,

@@ -12,24 +12,30 @@ use std::marker::Model;
 /// ones, and stalls where no room is left.
 #[derive(Drop)]
 pub struct MemSink {
-    bytes: Vec<u8>,
-    room: u64,
+    stream: QuietSink,
     step: u64,
     failing: Vec<u64>,
     calls: u64,
     faults: u64,
-    stalls: u64,
 }
 
 impl Model for MemSink {
-    ghost use Rattle.std.specs.Prelude.{◌≤◌, length, vec_capacity};
+    ghost use Rattle.std.specs.Prelude.{◌≤◌};
     ghost use Rattle.wire_io.specs.Streams.{SinkState};
 
     ghost Value = { SinkState };
 
-    ghost view = { λ s. record { bytes = s.bytes.items; room = s.room; step = s.step; failing = s.failing.items; calls = s.calls; faults = s.faults; stalls = s.stalls } };
+    ghost view = { λ s. record {
+      bytes = s.stream.bytes;
+      room = s.stream.room;
+      step = s.step;
+      failing = s.failing.items;
+      calls = s.calls;
+      faults = s.faults;
+      stalls = s.stream.stalls;
+    } };
 
-    ghost invariant = { λ s. (1 ≤ s.step) × (length s.bytes.items ≤ s.room) × (s.room ≤ vec_capacity s.bytes) };
+    ghost invariant = { λ s. 1 ≤ s.step };
 }
 
 impl MemSink {
@@ -37,16 +43,22 @@ impl MemSink {
     /// writes with a number in `failing` fail.
     pub fn new(alloc: Global, room: u64, step: u64, failing: Vec<u64>) -> Result<MemSink, NoMemory>
         requires { 1 ≤ step }
-        ensures { IfOk result (λ s. s ≡ record { bytes = []; room = room; step = step; failing = failing.items; calls = 0; faults = 0; stalls = 0 }) }
+        ensures { IfOk result (λ s. s ≡ record {
+          bytes = [];
+          room = room;
+          step = step;
+          failing = failing.items;
+          calls = 0;
+          faults = 0;
+          stalls = 0;
+        }) }
     {
         Ok(MemSink {
-            bytes: Vec::with_capacity(alloc, room as usize)?,
-            room,
+            stream: QuietSink::new(alloc, room)?,
             step,
             failing,
             calls: 0,
             faults: 0,
-            stalls: 0,
         })
     }
 
@@ -54,7 +66,7 @@ impl MemSink {
     pub fn bytes(&self) -> &[u8]
         ensures { result.now ≡ self.now.bytes }
     {
-        &self.bytes
+        self.stream.bytes()
     }
 }
 
@@ -88,14 +100,8 @@ impl Sink for MemSink {
             self.faults = self.faults.saturating_add(1);
             return Err(Failed);
         }
-        let left = self.room as usize - self.bytes.len();
-        let count = piece.len().min(left).min(self.step as usize);
-        if count == 0 && !piece.is_empty() {
-            self.stalls = self.stalls.saturating_add(1);
-            return Ok(0);
-        }
-        self.bytes.extend_from_slice(&piece[..count]).unwrap();
-        Ok(count as u64)
+        let most = piece.len().min(self.step as usize);
+        self.stream.put(&piece[..most])
     }
 }
 
