@@ -4,11 +4,9 @@ ghost use Rattle.elf_image.specs.BaseFile.{base_file, base_image, file_header, p
 ghost use Rattle.elf_image.specs.Gives.{Gives};
 ghost use Rattle.elf_image.specs.Loaded.{loaded_whole};
 
-use std::alloc::Global;
-
-use sqlite_items::Items;
-
 use crate::{ElfRefusal, Image, Segment};
+use sqlite_items::Items;
+use std::alloc::Global;
 
 /// Where the segment of a base file is loaded.
 const BASE_ADDRESS: u64 = 0x40_0000;
@@ -36,6 +34,7 @@ const BLANK_HEADERS: [u8; 120] = [
 
 /// Where p_filesz and p_memsz stand in a base file.
 const FILE_SIZE: usize = 96;
+
 const MEMORY_SIZE: usize = 104;
 
 /// Reads an ELF-64 file, so far a base file alone: one whose headers are those of an executable for x86-64 with its

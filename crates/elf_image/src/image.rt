@@ -69,7 +69,10 @@ impl Image {
         requires { 1 ≤ n }
         ensures { result ≡ covers_bytes self.now addr n }
     {
-        self.segs.as_slice().iter().any(|segment| segment.holds(addr, n))
+        self.segs
+            .as_slice()
+            .iter()
+            .any(|segment| segment.holds(addr, n))
     }
 
     // The first executable segment with the address among its file bytes.
@@ -77,6 +80,9 @@ impl Image {
         ensures value { option_copied result ≡ find (has_code_at addr) self.now.segs }
         ensures inside { IfSome result (λ s. IsTrue (has_code_at addr s.now)) }
     {
-        self.segs.as_slice().iter().find(|segment| segment.has_code(addr))
+        self.segs
+            .as_slice()
+            .iter()
+            .find(|segment| segment.has_code(addr))
     }
 }

@@ -9,3 +9,6 @@ mod refusal;
 pub use base::read_elf;
 pub use image::{Image, Segment};
 pub use refusal::ElfRefusal;
+
+#[cfg(test)]
+mod tests;

@@ -8,6 +8,7 @@ use Rattle.elf_image.proofs.base.is_base_file.Goals as goal
 
 pub returns : goal.returns
 returns c =
-    let begins = starts_is Decides-eqb c.args.file.now (file_header ++ program_header (length c.args.file.now)) c.starts_with.result (rw c.base_headers.ensures at c.starts_with.ensures.value) in
-    (λ yes. (_, base_file_of_rest c.args.file.now _ (begins.0 yes)),
-     λ (code, is). begins.1 code (rest_of_base_file c.args.file.now code is))
+    let begins = starts_is Decides-eqb c.args.file.now (file_header ++ program_header (length c.args.file.now)) c.starts_with.result (rw c.base_headers.ensures at c.starts_with.ensures.value) in (
+      λ yes. (_, base_file_of_rest c.args.file.now _ (begins.0 yes)),
+      λ (code, is). begins.1 code (rest_of_base_file c.args.file.now code is),
+    )

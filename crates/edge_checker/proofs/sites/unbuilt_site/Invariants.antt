@@ -1,0 +1,8 @@
+use Rattle.std.proofs.Common.{ℕ}
+use Rattle.edge_checker.specs.Instruction.{instruction_at}
+use Rattle.edge_checker.specs.Breaks.{first, unbuilt_at, unbuilt_in}
+use Rattle.edge_checker.proofs.FirstLemmas.{IsFirstFrom}
+use Rattle.edge_checker.proofs.sites.unbuilt_site.Given as goal
+
+abbrev pub invariant-loop-site : goal.invariant-loop-site
+invariant-loop-site l = IsFirstFrom (λ s. unbuilt_at s.addr (instruction_at l.image s.addr)) l.f.sites l.site-index (first (unbuilt_in l.image l.f))

@@ -1,0 +1,137 @@
+-- The places where a graph breaks a rule, in the order of the file, and the verdict.
+use Rattle.std.specs.Prelude.{ℕ, ◌==◌, ◌&&◌, Bool, true, false, not, List, [], ◌∷◌, ◌++◌, map, Some, None, length, flat_map, option_to_list, if◌then◌else◌}
+use Rattle.std.specs.List.{list_all, enumerate_from}
+use Rattle.std.specs.declared.option.Option.{Option}
+use Rattle.elf_image.specs.declared.image.Image.{Image}
+use Rattle.hoare_graph.specs.declared.graph.Term.{Term}
+use Rattle.hoare_graph.specs.declared.graph.Term.TheVariants.{Ra}
+use Rattle.hoare_graph.specs.declared.graph.Kind.{Kind}
+use Rattle.hoare_graph.specs.declared.graph.Kind.TheVariants.{Step, Return}
+use Rattle.hoare_graph.specs.declared.graph.Pred.{Pred}
+use Rattle.hoare_graph.specs.declared.graph.Vertex.{Vertex}
+use Rattle.hoare_graph.specs.declared.graph.Site.{Site}
+use Rattle.hoare_graph.specs.declared.graph.Function.{Function}
+use Rattle.hoare_graph.specs.declared.graph.Graph.{Graph}
+use Rattle.hoare_graph.specs.declared.verdict.Rule.{Rule}
+use Rattle.hoare_graph.specs.declared.verdict.Broken.{Broken}
+use Rattle.hoare_graph.specs.declared.verdict.Verdict.{Verdict}
+use Rattle.hoare_graph.specs.declared.verdict.Verdict.TheVariants.{Valid, Invalid, NotBuilt}
+use Rattle.hoare_graph.specs.Text.{is_entry}
+use Rattle.edge_checker.specs.declared.instruction.Instruction.{Instruction}
+use Rattle.edge_checker.specs.declared.instruction.Instruction.TheVariants.{Nop, Ret, MoveImmediate}
+use Rattle.edge_checker.specs.Instruction.{instruction_at}
+use Rattle.edge_checker.specs.Step.{next_address, after}
+use Rattle.edge_checker.specs.Entails.{all_registers, register_of, has_value, missing_of}
+use Rattle.edge_checker.specs.Rules.{preserved, vertex_at}
+
+-- a rule is broken where its test fails
+abbrev pub unless : Bool → Rule → List Rule
+unless true rule = []
+unless false rule = rule ∷ []
+
+-- the break of a rule at a function, a site, a vertex and a case
+abbrev pub broken : ℕ → ℕ → ℕ → ℕ → Rule → Broken
+broken function site vertex number rule =
+    record { function = function; site = site; vertex = vertex; case = number; rule = rule }
+
+-- the registers have their entry symbols, and the cell the return address
+abbrev pub keeps : List ℕ → Pred → Bool
+keeps kept p = list_all (λ r. is_entry r (register_of p r)) kept && has_value p.cell (Some Ra)
+
+-- the vertex is there and is the entry predicate
+abbrev pub begins : Option Vertex → Bool
+begins None = false
+begins (Some v) = keeps all_registers v.pred
+
+-- the rule of a function that is broken
+abbrev pub entry_rules : Function → List Rule
+entry_rules f = unless (begins (vertex_at f (f.entry, 0))) Rule.Entry
+
+-- what an edge's target breaks: it is not there, or the first missing conjunct
+abbrev pub target_rules : Pred → Option Vertex → List Rule
+target_rules p None = Rule.Vertex ∷ []
+target_rules p (Some target) = option_to_list (missing_of p target.pred)
+
+-- the rules that an edge breaks from a predicate on
+abbrev pub edge_rules : Function → Site → Instruction → Pred → ℕ × ℕ → List Rule
+edge_rules f s i p edge =
+    unless (edge.0 == next_address s.addr i) Rule.Address ++ target_rules (after i p) (vertex_at f edge)
+
+-- the same with their place, for a vertex with its number and an edge with its case
+abbrev pub edge_breaks : Function → Site → Instruction → ℕ × Vertex → ℕ × (ℕ × ℕ) → List Broken
+edge_breaks f s i v edge =
+    map (broken f.entry s.addr v.0 edge.0) (edge_rules f s i v.1.pred edge.1)
+
+-- what the vertex of a step breaks: it has one case and an edge for it, and each edge's rules
+abbrev pub step_breaks : Function → Site → Instruction → ℕ × Vertex → List Broken
+step_breaks f s i v =
+    map (broken f.entry s.addr v.0 0) (unless (length v.1.out == 1) Rule.Cases)
+    ++ flat_map (edge_breaks f s i v) (enumerate_from 0 v.1.out)
+
+-- what the vertex of a return breaks
+abbrev pub return_breaks : Function → Site → ℕ × Vertex → List Broken
+return_breaks f s v =
+    map (broken f.entry s.addr v.0 0) (unless (keeps preserved v.1.pred) Rule.Return)
+
+-- what a vertex breaks at a site of a kind
+abbrev pub breaks_of_kind : Kind → Function → Site → Instruction → ℕ × Vertex → List Broken
+breaks_of_kind Step f s i v = step_breaks f s i v
+breaks_of_kind Return f s i v = return_breaks f s v
+
+-- what a vertex with its number breaks
+abbrev pub vertex_breaks : Function → Site → Instruction → ℕ × Vertex → List Broken
+vertex_breaks f s i v = breaks_of_kind s.kind f s i v
+
+-- a step is at no return, a return at one
+abbrev pub fits : Kind → Instruction → Bool
+fits Step Nop = true
+fits Step Ret = false
+fits Step (MoveImmediate register value) = true
+fits Return Nop = false
+fits Return Ret = true
+fits Return (MoveImmediate register value) = false
+
+-- what a site with the instruction there breaks, its own rule first, then its vertices
+abbrev pub site_breaks : Function → Site → Option Instruction → List Broken
+site_breaks f s None = []
+site_breaks f s (Some i) =
+    map (broken f.entry s.addr 0 0) (unless (fits s.kind i) Rule.Kind)
+    ++ flat_map (vertex_breaks f s i) (enumerate_from 0 s.vertices)
+
+-- what a function breaks, its own rule first, which names the entry as its site, then its sites
+abbrev pub function_breaks : Image → Function → List Broken
+function_breaks image f =
+    map (broken f.entry f.entry 0 0) (entry_rules f)
+    ++ flat_map (λ s. site_breaks f s (instruction_at image s.addr)) f.sites
+
+-- what a graph breaks, function by function
+abbrev pub breaks_of : Image → Graph → List Broken
+breaks_of image g = flat_map (function_breaks image) g.functions
+
+-- the address, where the bytes there spell no instruction that is built
+abbrev pub unbuilt_at : ℕ → Option Instruction → List ℕ
+unbuilt_at addr None = addr ∷ []
+unbuilt_at addr (Some i) = []
+
+-- the addresses of such sites in a function
+abbrev pub unbuilt_in : Image → Function → List ℕ
+unbuilt_in image f = flat_map (λ s. unbuilt_at s.addr (instruction_at image s.addr)) f.sites
+
+-- and in a graph
+abbrev pub unbuilt_of : Image → Graph → List ℕ
+unbuilt_of image g = flat_map (unbuilt_in image) g.functions
+
+-- the first element, if there is one
+abbrev pub first : {A : Type 0} → List A → Option A
+first [] = None
+first (x ∷ xs) = Some x
+
+-- a site that is not built comes before every break
+abbrev pub verdict_from : Option ℕ → Option Broken → Verdict
+verdict_from (Some site) break = NotBuilt site
+verdict_from None (Some break) = Invalid break
+verdict_from None None = Valid
+
+-- the verdict on a graph
+abbrev pub verdict_of : Image → Graph → Verdict
+verdict_of image g = verdict_from (first (unbuilt_of image g)) (first (breaks_of image g))

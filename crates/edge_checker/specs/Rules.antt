@@ -1,0 +1,80 @@
+-- The rules of a valid graph, as facts of its functions, sites, vertices and edges.
+use Rattle.std.specs.Prelude.{◌≡◌, ℕ, ◌↔◌, List, [], ◌∷◌, Some, None, All, length, slice_get}
+use Rattle.std.specs.declared.option.Option.{Option}
+use Rattle.elf_image.specs.declared.image.Image.{Image}
+use Rattle.hoare_graph.specs.declared.graph.Term.TheVariants.{Entry, Ra}
+use Rattle.hoare_graph.specs.declared.graph.Kind.{Kind}
+use Rattle.hoare_graph.specs.declared.graph.Kind.TheVariants.{Step, Return}
+use Rattle.hoare_graph.specs.declared.graph.Pred.{Pred}
+use Rattle.hoare_graph.specs.declared.graph.Vertex.{Vertex}
+use Rattle.hoare_graph.specs.declared.graph.Site.{Site}
+use Rattle.hoare_graph.specs.declared.graph.Function.{Function}
+use Rattle.hoare_graph.specs.declared.graph.Graph.{Graph}
+use Rattle.hoare_graph.specs.Parts.{Each}
+use Rattle.hoare_graph.specs.Lookup.{site_at}
+use Rattle.edge_checker.specs.declared.instruction.Instruction.{Instruction}
+use Rattle.edge_checker.specs.declared.instruction.Instruction.TheVariants.{Nop, Ret, MoveImmediate}
+use Rattle.edge_checker.specs.Instruction.{instruction_at}
+use Rattle.edge_checker.specs.Step.{next_address, after}
+use Rattle.edge_checker.specs.Entails.{Entails, all_registers, register_of}
+
+-- rbx, rsp, rbp and r12 to r15, which a callee keeps (System V x86-64 psABI, section 3.2.1)
+abbrev pub preserved : List ℕ
+preserved = 3 ∷ 4 ∷ 5 ∷ 12 ∷ 13 ∷ 14 ∷ 15 ∷ []
+
+-- the registers have what they had at the entry, and the cell has the return address
+pub record Keeps (kept : List ℕ) (p : Pred) : Type 0 where
+  pub registers : All (λ r. register_of p r ≡ Some (Entry r)) kept
+  pub cell : p.cell ≡ Some Ra
+
+-- the vertex with the number at a site that is there
+abbrev pub vertex_in : ℕ → Option Site → Option Vertex
+vertex_in n None = None
+vertex_in n (Some s) = slice_get s.vertices n
+
+-- the vertex that an edge names by its address and its number
+abbrev pub vertex_at : Function → ℕ × ℕ → Option Vertex
+vertex_at f edge = vertex_in edge.1 (site_at f edge.0)
+
+-- there is a site at the entry, and its vertex 0 is the entry predicate
+pub record HasEntry (f : Function) : Type 0 where
+  pub vertex : Vertex
+  pub found : vertex_at f (f.entry, 0) ≡ Some vertex
+  pub pred : Keeps all_registers vertex.pred
+
+-- the edge leads to the instruction's next address, to a vertex that is there and is entailed
+pub record EdgeHolds (f : Function) (s : Site) (i : Instruction) (p : Pred) (edge : ℕ × ℕ) : Type 0 where
+  pub address : edge.0 ≡ next_address s.addr i
+  pub target : Vertex
+  pub found : vertex_at f edge ≡ Some target
+  pub entailed : Entails (after i p) target.pred
+
+-- a step has one case and an edge for it
+pub record Steps (f : Function) (s : Site) (i : Instruction) (v : Vertex) : Type 0 where
+  pub one_case : length v.out ≡ 1
+  pub edges : Each (EdgeHolds f s i v.pred) v.out
+
+-- a return finds the entry's stack, the return address and what a callee keeps
+abbrev pub VertexHolds : Kind → Function → Site → Instruction → Vertex → Type 0
+VertexHolds Step f s i v = Steps f s i v
+VertexHolds Return f s i v = Keeps preserved v.pred
+
+-- a step is at an instruction that goes on, a return at one that returns
+abbrev pub Fits : Kind → Instruction → Type 0
+Fits kind i = (kind ≡ Return) ↔ (i ≡ Ret)
+
+-- an instruction that is built stands at the site, of its kind, and each vertex holds
+pub record SiteHolds (image : Image) (f : Function) (s : Site) : Type 0 where
+  pub instruction : Instruction
+  pub built : instruction_at image s.addr ≡ Some instruction
+  pub fits : Fits s.kind instruction
+  pub vertices : Each (VertexHolds s.kind f s instruction) s.vertices
+
+-- the entry holds, and each site
+pub record FunctionHolds (image : Image) (f : Function) : Type 0 where
+  pub entry : HasEntry f
+  pub sites : Each (SiteHolds image f) f.sites
+
+-- every function holds
+abbrev pub IsValid : Image → Graph → Type 0
+IsValid image g = Each (FunctionHolds image) g.functions

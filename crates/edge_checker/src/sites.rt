@@ -1,0 +1,117 @@
+// The first rule that a site or a function breaks.
+ghost use Rattle.std.specs.Prelude.{◌≡◌, ℕ, ◌<◌, ◌^◌, map, flat_map, length};
+ghost use Rattle.std.specs.List.{enumerate_from};
+ghost use Rattle.hoare_graph.specs.Parts.{Ascends, Each};
+ghost use Rattle.hoare_graph.specs.WellFormed.{IsSite, IsFunction};
+ghost use Rattle.edge_checker.specs.Breaks.{first, begins, fits, vertex_breaks, site_breaks, function_breaks, unbuilt_at, unbuilt_in};
+ghost use Rattle.edge_checker.specs.Instruction.{instruction_at};
+ghost use Rattle.edge_checker.specs.Rules.{vertex_at};
+
+use crate::entails::{REGISTERS, keeps_entry};
+use crate::instruction::{Instruction, decode};
+use crate::places::vertex_there;
+use crate::vertices::vertex_break;
+use elf_image::Image;
+use hoare_graph::{Broken, Function, Kind, Rule, Site};
+
+/// The first break in the function.
+pub fn function_break(image: &Image, f: &Function) -> Option<Broken>
+    requires { IsFunction f.now }
+    ensures { result ≡ first (function_breaks image.now f.now) }
+{
+    if !has_entry_vertex(f) {
+        return Some(Broken {
+            function: f.entry,
+            site: f.entry,
+            vertex: 0,
+            case: 0,
+            rule: Rule::Entry,
+        });
+    }
+    for site in f.sites.as_slice() {
+        let broken = site_break(image, f, site);
+        if broken.is_some() {
+            return broken;
+        }
+    }
+    None
+}
+
+/// The first site of the function whose instruction is not built.
+pub fn unbuilt_site(image: &Image, f: &Function) -> Option<u64>
+    ensures { result ≡ first (unbuilt_in image.now f.now) }
+{
+    for site in f.sites.as_slice() {
+        let unbuilt = unbuilt_address(image, site.addr);
+        if unbuilt.is_some() {
+            return unbuilt;
+        }
+    }
+    None
+}
+
+// The address, where the instruction there is not built.
+fn unbuilt_address(image: &Image, addr: u64) -> Option<u64>
+    ensures { result ≡ first (unbuilt_at addr (instruction_at image.now addr)) }
+{
+    match decode(image.code_at(addr)) {
+        Some(_) => None,
+        None => Some(addr),
+    }
+}
+
+// Whether a site stands at the entry, with the entry predicate as its vertex 0.
+fn has_entry_vertex(f: &Function) -> bool
+    requires { Ascends (map (λ s. s.addr) f.now.sites) }
+    ensures { result ≡ begins (vertex_at f.now (f.now.entry, 0)) }
+{
+    match vertex_there(f, f.entry, 0) {
+        Some(vertex) => keeps_entry(&vertex.pred, &REGISTERS),
+        None => false,
+    }
+}
+
+// The first break at the site.
+fn site_break(image: &Image, f: &Function, s: &Site) -> Option<Broken>
+    requires sites { Ascends (map (λ s. s.addr) f.now.sites) }
+    requires count { length s.now.vertices < 2 ^ 32 }
+    ensures { result ≡ first (site_breaks f.now s.now (instruction_at image.now s.now.addr)) }
+{
+    let Some(instruction) = decode(image.code_at(s.addr)) else {
+        return None;
+    };
+    if fits_kind(s.kind, instruction) {
+        return first_vertex_break(f, s, instruction);
+    }
+    Some(Broken {
+        function: f.entry,
+        site: s.addr,
+        vertex: 0,
+        case: 0,
+        rule: Rule::Kind,
+    })
+}
+
+// The first break at a vertex of the site.
+fn first_vertex_break(f: &Function, s: &Site, instruction: Instruction) -> Option<Broken>
+    requires sites { Ascends (map (λ s. s.addr) f.now.sites) }
+    requires count { length s.now.vertices < 2 ^ 32 }
+    ensures { result ≡ first (flat_map (vertex_breaks f.now s.now instruction) (enumerate_from 0 s.now.vertices)) }
+{
+    for (number, vertex) in s.vertices.as_slice().iter().enumerate() {
+        let broken = vertex_break(f, s, instruction, number as u32, vertex);
+        if broken.is_some() {
+            return broken;
+        }
+    }
+    None
+}
+
+fn fits_kind(kind: Kind, instruction: Instruction) -> bool
+    ensures { result ≡ fits kind instruction }
+{
+    match kind {
+        Kind::Step => instruction != Instruction::Ret,
+        Kind::Return => instruction == Instruction::Ret,
+    }
+}
