@@ -1,5 +1,5 @@
 -- The breaks of a function, a vertex and an edge where the rules before them hold.
-use Rattle.std.proofs.Common.{◌≡◌, ℕ, ◌<◌, ◌≤◌, true, List, [], ◌∷◌, ◌++◌, map, Some, None, Option, length, get_or, arith, refl, sym, ◌∙◌, ap, eqb}
+use Rattle.std.proofs.Common.{◌≡◌, ℕ, ◌<◌, ◌≤◌, true, List, [], ◌∷◌, ◌++◌, map, Option, length, get_or, arith, refl, sym, ◌∙◌, ap, eqb}
 use Rattle.std.specs.List.{flat_map, enumerate_from}
 use Rattle.std.specs.Option.{option_map}
 use Rattle.elf_image.specs.declared.image.Image.{Image}
@@ -10,7 +10,8 @@ use Rattle.hoare_graph.specs.declared.verdict.Rule.{Rule}
 use Rattle.edge_checker.specs.declared.instruction.Instruction.{Instruction}
 use Rattle.edge_checker.specs.Instruction.{instruction_at}
 use Rattle.edge_checker.specs.Rules.{vertex_at}
-use Rattle.edge_checker.specs.Breaks.{first, unless, broken, begins, edge_rules, edge_breaks, step_breaks, site_breaks, function_breaks}
+use Rattle.edge_checker.specs.Breaks.{first, unless, broken, edge_rules, edge_breaks, step_breaks, site_breaks, function_breaks}
+use Rattle.edge_checker.specs.Tests.{begins}
 
 -- a function whose entry holds breaks what its sites break
 pub function_breaks-begins : (image : Image) (f : Function) → begins (vertex_at f (f.entry, 0)) ≡ true → function_breaks image f ≡ flat_map (λ s. site_breaks f s (instruction_at image s.addr)) f.sites

@@ -1,5 +1,5 @@
 -- When lists that are joined are empty.
-use Rattle.std.proofs.Common.{◌≡◌, ℕ, ◌+◌, true, false, Bool, List, [], ◌∷◌, ◌++◌, map, Some, None, Option, refl, ap, ◌↔◌}
+use Rattle.std.proofs.Common.{◌≡◌, ℕ, ◌+◌, true, false, Bool, List, [], ◌∷◌, ◌++◌, map, None, refl, ◌↔◌}
 use Rattle.std.specs.List.{flat_map, enumerate_from}
 use Rattle.hoare_graph.specs.Parts.{Each}
 use Rattle.hoare_graph.specs.declared.verdict.Rule.{Rule}

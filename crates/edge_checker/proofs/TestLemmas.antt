@@ -1,5 +1,5 @@
 -- Each test of the checker is true exactly where its fact holds.
-use Rattle.std.proofs.Common.{◌≡◌, ℕ, true, false, Bool, List, [], ◌∷◌, Some, None, Option, refl, ap, ◌↔◌, ◌&&◌, cond, All}
+use Rattle.std.proofs.Common.{◌≡◌, ℕ, true, false, Bool, List, Some, None, Option, refl, ap, ◌↔◌, ◌&&◌, cond, All}
 use Rattle.std.specs.Bool.{Decides}
 use Rattle.std.specs.List.{list_all}
 use Rattle.std.proofs.lemmas.Bool.Decides.{Decides-eqb, Decides-by_and}
@@ -14,7 +14,7 @@ use Rattle.edge_checker.specs.declared.instruction.Instruction.{Instruction}
 use Rattle.edge_checker.specs.declared.instruction.Instruction.TheVariants.{Nop, Ret, MoveImmediate}
 use Rattle.edge_checker.specs.Entails.{all_registers, register_of, HasValue, Entails, same_term, has_value, has_registers, missing_of}
 use Rattle.edge_checker.specs.Rules.{Keeps, Fits}
-use Rattle.edge_checker.specs.Breaks.{keeps, fits}
+use Rattle.edge_checker.specs.Tests.{keeps, fits}
 
 -- two tests joined
 both_hold : (a b : Bool) → ((a && b) ≡ true) ↔ ((a ≡ true) × (b ≡ true))

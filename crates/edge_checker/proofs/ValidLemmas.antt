@@ -1,5 +1,5 @@
 -- A graph breaks no rule exactly where each rule holds.
-use Rattle.std.proofs.Common.{◌≡◌, ℕ, true, false, Bool, List, [], ◌∷◌, ◌++◌, map, Some, None, Option, length, refl, sym, ◌∙◌, ap, subst, ◌↔◌, eqb}
+use Rattle.std.proofs.Common.{◌≡◌, ℕ, true, Bool, List, [], ◌++◌, map, Some, None, Option, length, refl, sym, subst, ◌↔◌, eqb}
 use Rattle.std.specs.Option.{option_to_list}
 use Rattle.std.specs.List.{flat_map, enumerate_from}
 use Rattle.std.proofs.lemmas.Bool.Decides.{Decides-eqb}
@@ -13,15 +13,16 @@ use Rattle.hoare_graph.specs.declared.graph.Function.{Function}
 use Rattle.hoare_graph.specs.declared.graph.Graph.{Graph}
 use Rattle.hoare_graph.specs.declared.verdict.Rule.{Rule}
 use Rattle.hoare_graph.specs.declared.verdict.Broken.{Broken}
-use Rattle.hoare_graph.specs.declared.verdict.Verdict.TheVariants.{Valid, Invalid, NotBuilt}
+use Rattle.hoare_graph.specs.declared.verdict.Verdict.TheVariants.{Valid}
 use Rattle.hoare_graph.specs.Parts.{Each}
 use Rattle.edge_checker.specs.declared.instruction.Instruction.{Instruction}
 use Rattle.edge_checker.specs.Instruction.{instruction_at}
 use Rattle.edge_checker.specs.Step.{next_address, after}
 use Rattle.edge_checker.specs.Entails.{Entails, all_registers, missing_of}
-use Rattle.edge_checker.specs.Rules.{preserved, vertex_at, Keeps, HasEntry, EdgeHolds, Steps, VertexHolds, Fits, SiteHolds, FunctionHolds, IsValid}
-use Rattle.edge_checker.specs.Breaks.{first, unless, broken, keeps, begins, fits, entry_rules, target_rules, edge_rules, edge_breaks, breaks_of_kind, vertex_breaks, site_breaks, function_breaks, breaks_of, unbuilt_at, unbuilt_in, unbuilt_of, verdict_from, verdict_of}
-use Rattle.edge_checker.proofs.EmptyLemmas.{append-empty, map-empty, unless-empty, first-None, flat_map-empty, numbered-empty, both-empty}
+use Rattle.edge_checker.specs.Rules.{preserved, vertex_at, Keeps, EdgeHolds, VertexHolds, Fits, SiteHolds, FunctionHolds, IsValid}
+use Rattle.edge_checker.specs.Breaks.{first, unless, broken, target_rules, edge_rules, edge_breaks, breaks_of_kind, vertex_breaks, site_breaks, function_breaks, breaks_of, unbuilt_at, unbuilt_in, unbuilt_of, first_unbuilt, verdict_from, verdict_of}
+use Rattle.edge_checker.specs.Tests.{keeps, begins, fits}
+use Rattle.edge_checker.proofs.EmptyLemmas.{append-empty, map-empty, unless-empty, first-None, numbered-empty, both-empty}
 use Rattle.edge_checker.proofs.TestLemmas.{keeps-Decides, fits-Decides, missing_of-None}
 
 -- a list of breaks that a rule and further breaks make
@@ -124,3 +125,10 @@ valid_exactly image g =
       λ e. holds.0 (unbuilt.0 (verdict.0 e).0, breaks.0 (verdict.0 e).1),
       λ valid. let empty = holds.1 valid in verdict.1 (unbuilt.1 empty.0, breaks.1 empty.1),
     )
+
+-- where every site is built there is no break exactly where each rule holds
+pub no_break_exactly : (image : Image) (g : Graph) → first_unbuilt image g ≡ None → (breaks_of image g ≡ []) ↔ IsValid image g
+no_break_exactly image g built =
+    let unbuilt = first-None (unbuilt_of image g) in
+    let holds = both-empty (FunctionHolds image) (unbuilt_in image) (function_breaks image) (function-empty image) g.functions in
+    (λ e. holds.0 (unbuilt.0 built, e), λ valid. (holds.1 valid).1)

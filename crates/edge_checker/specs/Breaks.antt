@@ -1,10 +1,8 @@
 -- The places where a graph breaks a rule, in the order of the file, and the verdict.
-use Rattle.std.specs.Prelude.{ℕ, ◌==◌, ◌&&◌, Bool, true, false, not, List, [], ◌∷◌, ◌++◌, map, Some, None, length, flat_map, option_to_list, if◌then◌else◌}
-use Rattle.std.specs.List.{list_all, enumerate_from}
+use Rattle.std.specs.Prelude.{ℕ, ◌==◌, Bool, true, false, List, [], ◌∷◌, ◌++◌, map, Some, None, length, flat_map, option_to_list}
+use Rattle.std.specs.List.{enumerate_from}
 use Rattle.std.specs.declared.option.Option.{Option}
 use Rattle.elf_image.specs.declared.image.Image.{Image}
-use Rattle.hoare_graph.specs.declared.graph.Term.{Term}
-use Rattle.hoare_graph.specs.declared.graph.Term.TheVariants.{Ra}
 use Rattle.hoare_graph.specs.declared.graph.Kind.{Kind}
 use Rattle.hoare_graph.specs.declared.graph.Kind.TheVariants.{Step, Return}
 use Rattle.hoare_graph.specs.declared.graph.Pred.{Pred}
@@ -16,13 +14,12 @@ use Rattle.hoare_graph.specs.declared.verdict.Rule.{Rule}
 use Rattle.hoare_graph.specs.declared.verdict.Broken.{Broken}
 use Rattle.hoare_graph.specs.declared.verdict.Verdict.{Verdict}
 use Rattle.hoare_graph.specs.declared.verdict.Verdict.TheVariants.{Valid, Invalid, NotBuilt}
-use Rattle.hoare_graph.specs.Text.{is_entry}
 use Rattle.edge_checker.specs.declared.instruction.Instruction.{Instruction}
-use Rattle.edge_checker.specs.declared.instruction.Instruction.TheVariants.{Nop, Ret, MoveImmediate}
 use Rattle.edge_checker.specs.Instruction.{instruction_at}
 use Rattle.edge_checker.specs.Step.{next_address, after}
-use Rattle.edge_checker.specs.Entails.{all_registers, register_of, has_value, missing_of}
+use Rattle.edge_checker.specs.Entails.{missing_of}
 use Rattle.edge_checker.specs.Rules.{preserved, vertex_at}
+use Rattle.edge_checker.specs.Tests.{keeps, begins, fits}
 
 -- a rule is broken where its test fails
 abbrev pub unless : Bool → Rule → List Rule
@@ -33,15 +30,6 @@ unless false rule = rule ∷ []
 abbrev pub broken : ℕ → ℕ → ℕ → ℕ → Rule → Broken
 broken function site vertex number rule =
     record { function = function; site = site; vertex = vertex; case = number; rule = rule }
-
--- the registers have their entry symbols, and the cell the return address
-abbrev pub keeps : List ℕ → Pred → Bool
-keeps kept p = list_all (λ r. is_entry r (register_of p r)) kept && has_value p.cell (Some Ra)
-
--- the vertex is there and is the entry predicate
-abbrev pub begins : Option Vertex → Bool
-begins None = false
-begins (Some v) = keeps all_registers v.pred
 
 -- the rule of a function that is broken
 abbrev pub entry_rules : Function → List Rule
@@ -81,15 +69,6 @@ breaks_of_kind Return f s i v = return_breaks f s v
 -- what a vertex with its number breaks
 abbrev pub vertex_breaks : Function → Site → Instruction → ℕ × Vertex → List Broken
 vertex_breaks f s i v = breaks_of_kind s.kind f s i v
-
--- a step is at no return, a return at one
-abbrev pub fits : Kind → Instruction → Bool
-fits Step Nop = true
-fits Step Ret = false
-fits Step (MoveImmediate register value) = true
-fits Return Nop = false
-fits Return Ret = true
-fits Return (MoveImmediate register value) = false
 
 -- what a site with the instruction there breaks, its own rule first, then its vertices
 abbrev pub site_breaks : Function → Site → Option Instruction → List Broken
@@ -132,6 +111,10 @@ verdict_from (Some site) break = NotBuilt site
 verdict_from None (Some break) = Invalid break
 verdict_from None None = Valid
 
+-- the first site of a graph, in the order of the file, that is not built
+abbrev pub first_unbuilt : Image → Graph → Option ℕ
+first_unbuilt image g = first (unbuilt_of image g)
+
 -- the verdict on a graph
 abbrev pub verdict_of : Image → Graph → Verdict
-verdict_of image g = verdict_from (first (unbuilt_of image g)) (first (breaks_of image g))
+verdict_of image g = verdict_from (first_unbuilt image g) (first (breaks_of image g))

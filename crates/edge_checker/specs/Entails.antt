@@ -1,5 +1,5 @@
 -- What a predicate knows, and when it entails another one, conjunct by conjunct.
-use Rattle.std.specs.Prelude.{◌≡◌, ℕ, ◌==◌, ◌&&◌, Bool, true, false, List, [], ◌∷◌, Some, None, All, slice_index_or, if◌then◌else◌, ⊤}
+use Rattle.std.specs.Prelude.{◌≡◌, ℕ, ◌==◌, Bool, true, false, List, [], ◌∷◌, Some, None, All, slice_index_or, if◌then◌else◌, ⊤}
 use Rattle.std.specs.List.{list_all}
 use Rattle.std.specs.declared.option.Option.{Option}
 use Rattle.hoare_graph.specs.declared.graph.Term.{Term}

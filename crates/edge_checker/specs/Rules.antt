@@ -13,7 +13,7 @@ use Rattle.hoare_graph.specs.declared.graph.Graph.{Graph}
 use Rattle.hoare_graph.specs.Parts.{Each}
 use Rattle.hoare_graph.specs.Lookup.{site_at}
 use Rattle.edge_checker.specs.declared.instruction.Instruction.{Instruction}
-use Rattle.edge_checker.specs.declared.instruction.Instruction.TheVariants.{Nop, Ret, MoveImmediate}
+use Rattle.edge_checker.specs.declared.instruction.Instruction.TheVariants.{Ret}
 use Rattle.edge_checker.specs.Instruction.{instruction_at}
 use Rattle.edge_checker.specs.Step.{next_address, after}
 use Rattle.edge_checker.specs.Entails.{Entails, all_registers, register_of}

@@ -1,7 +1,9 @@
 // The verdict on a graph.
-ghost use Rattle.std.specs.Prelude.{◌≡◌, ℕ, ◌↔◌, IfOk, IsNone};
+ghost use Rattle.std.specs.Prelude.{◌≡◌, ℕ, [], ◌↔◌, IfOk, IsNone, None};
+ghost use Rattle.elf_image.specs.declared.image.Image.{Image as PlainImage};
+ghost use Rattle.hoare_graph.specs.declared.graph.Graph.{Graph as PlainGraph};
 ghost use Rattle.hoare_graph.specs.WellFormed.{IsWellFormed};
-ghost use Rattle.edge_checker.specs.Breaks.{first, verdict_of, breaks_of, unbuilt_of};
+ghost use Rattle.edge_checker.specs.Breaks.{first, verdict_of, breaks_of, unbuilt_of, first_unbuilt};
 ghost use Rattle.edge_checker.specs.Rules.{IsValid};
 
 use crate::sites::{function_break, unbuilt_site};
@@ -34,12 +36,19 @@ pub fn check(
     Ok(judge(image, g))
 }
 
+/// The law of the rules, of every image and every graph: the verdict is `Valid` exactly where each rule holds, and where
+/// every site is built there is no break exactly where each rule holds. The call does nothing.
+pub fn validity()
+    ensures valid { (image : PlainImage) (g : PlainGraph) → (verdict_of image g ≡ Verdict.Valid) ↔ IsValid image g }
+    ensures no_break { (image : PlainImage) (g : PlainGraph) → first_unbuilt image g ≡ None → (breaks_of image g ≡ []) ↔ IsValid image g }
+{}
+
 // The verdict; it takes no memory.
 fn judge(image: &Image, g: &Graph) -> Verdict
     requires { IsWellFormed g.now }
     ensures { result ≡ verdict_of image.now g.now }
 {
-    if let Some(site) = first_unbuilt(image, g) {
+    if let Some(site) = first_unbuilt_site(image, g) {
         return Verdict::NotBuilt { site };
     }
     match first_break(image, g) {
@@ -48,7 +57,7 @@ fn judge(image: &Image, g: &Graph) -> Verdict
     }
 }
 
-fn first_unbuilt(image: &Image, g: &Graph) -> Option<u64>
+fn first_unbuilt_site(image: &Image, g: &Graph) -> Option<u64>
     ensures { result ≡ first (unbuilt_of image.now g.now) }
 {
     for function in g.functions.as_slice() {

@@ -4,7 +4,7 @@ ghost use Rattle.std.specs.List.{list_all};
 ghost use Rattle.hoare_graph.specs.Text.{is_entry};
 ghost use Rattle.edge_checker.specs.Step.{after};
 ghost use Rattle.edge_checker.specs.Entails.{register_of, same_term, has_value, has_registers, missing_of};
-ghost use Rattle.edge_checker.specs.Breaks.{keeps};
+ghost use Rattle.edge_checker.specs.Tests.{keeps};
 
 use crate::instruction::Instruction;
 use hoare_graph::{Pred, Rule, Term};

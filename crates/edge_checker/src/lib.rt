@@ -9,4 +9,7 @@ mod places;
 mod sites;
 mod vertices;
 
-pub use checking::{NoMemory, check};
+pub use checking::{NoMemory, check, validity};
+
+#[cfg(test)]
+mod tests;

@@ -3,7 +3,8 @@ ghost use Rattle.std.specs.Prelude.{◌≡◌, ℕ, ◌<◌, ◌^◌, map, flat_
 ghost use Rattle.std.specs.List.{enumerate_from};
 ghost use Rattle.hoare_graph.specs.Parts.{Ascends, Each};
 ghost use Rattle.hoare_graph.specs.WellFormed.{IsSite, IsFunction};
-ghost use Rattle.edge_checker.specs.Breaks.{first, begins, fits, vertex_breaks, site_breaks, function_breaks, unbuilt_at, unbuilt_in};
+ghost use Rattle.edge_checker.specs.Breaks.{first, vertex_breaks, site_breaks, function_breaks, unbuilt_at, unbuilt_in};
+ghost use Rattle.edge_checker.specs.Tests.{begins, fits};
 ghost use Rattle.edge_checker.specs.Instruction.{instruction_at};
 ghost use Rattle.edge_checker.specs.Rules.{vertex_at};
 

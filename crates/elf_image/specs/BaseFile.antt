@@ -1,7 +1,6 @@
 -- A base file: an ELF-64 executable of one program header, whose one segment is the file itself.
 use Rattle.std.specs.Prelude.{ℕ, ◌+◌, true, false, List, [], ◌∷◌, ◌++◌, length, codes, replicate}
 use Rattle.std.specs.Int.{w16, w32, w64, to_le_bytes}
-use Rattle.elf_image.specs.declared.image.Segment.{Segment}
 use Rattle.elf_image.specs.declared.image.Image.{Image}
 
 -- the sizes of the file header and of a program header, which the code follows

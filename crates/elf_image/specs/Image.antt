@@ -1,5 +1,5 @@
 -- What stands at an address of a loaded executable (ELF-64, program header).
-use Rattle.std.specs.Prelude.{ℕ, ◌+◌, ◌-◌, ◌==◌, ◌&&◌, Bool, true, false, not, List, [], ◌∷◌, length, take, drop, nat_lt, nat_le, find, Some, None}
+use Rattle.std.specs.Prelude.{ℕ, ◌+◌, ◌-◌, ◌==◌, ◌&&◌, Bool, not, List, [], length, take, drop, nat_lt, nat_le, find, Some, None}
 use Rattle.std.specs.declared.option.Option.{Option}
 use Rattle.std.specs.List.{list_any}
 use Rattle.elf_image.specs.declared.image.Segment.{Segment}

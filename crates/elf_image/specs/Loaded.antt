@@ -1,6 +1,5 @@
 -- The image of a file that is loaded whole, as a base file is.
 use Rattle.std.specs.Prelude.{ℕ, true, false, List, [], ◌∷◌, length}
-use Rattle.elf_image.specs.declared.image.Segment.{Segment}
 use Rattle.elf_image.specs.declared.image.Image.{Image}
 use Rattle.elf_image.specs.BaseFile.{base_address, base_entry}
 

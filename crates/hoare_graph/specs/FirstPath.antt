@@ -1,5 +1,5 @@
 -- The graphs whose text is read today: one function with the usual frame, one vertex a site.
-use Rattle.std.specs.Prelude.{◌≡◌, ◌⊎◌, List, [], ◌∷◌, Result, Ok, Err, length}
+use Rattle.std.specs.Prelude.{◌≡◌, [], length}
 use Rattle.hoare_graph.specs.declared.graph.Vertex.{Vertex}
 use Rattle.hoare_graph.specs.declared.graph.Kind.{Kind}
 use Rattle.hoare_graph.specs.declared.graph.Kind.TheVariants.{Step, Return}

@@ -1,5 +1,5 @@
 -- Words about lists that the definitions of a graph use.
-use Rattle.std.specs.Prelude.{ℕ, ◌+◌, ◌<◌, List, [], ◌∷◌, ⊤}
+use Rattle.std.specs.Prelude.{ℕ, ◌<◌, List, [], ◌∷◌, ⊤}
 
 -- a fact of each element
 abbrev pub Each : {X : Type 0} → (X → Type 0) → List X → Type 0

@@ -3,7 +3,18 @@
 #![tactic(auto)]
 
 mod graph;
+mod lines;
+mod lookup;
+mod reading;
+mod refusal;
+#[cfg(test)]
+mod tests;
 mod verdict;
+mod words;
+mod writing;
 
 pub use graph::{Function, Graph, Kind, Policy, Pred, Site, Term, Vertex};
+pub use reading::{one_text, read_graph};
+pub use refusal::{GraphRefusal, NoMemory};
 pub use verdict::{Broken, Rule, Verdict};
+pub use writing::write_graph;

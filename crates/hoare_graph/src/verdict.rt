@@ -1,4 +1,6 @@
 // What a checker says of a graph.
+ghost use Rattle.std.specs.Prelude.{◌≡◌};
+ghost use Rattle.hoare_graph.specs.Verdict.{rule_name};
 
 /// The rules that a graph may break, in the order in which they are tried at one level.
 #[derive(Clone, Copy, Debug, PartialEq, Eq)]
@@ -48,4 +50,38 @@ pub enum Verdict {
     Invalid(Broken),
     /// The first site whose instruction is not built yet.
     NotBuilt { site: u64 },
+}
+
+impl Rule {
+    /// The rule's name in lower case, as it is printed.
+    pub fn name(self) -> &'static str
+        ensures { result.now ≡ rule_name self }
+    {
+        match self {
+            Rule::Entry => "entry",
+            Rule::Kind => "kind",
+            Rule::Callee => "callee",
+            Rule::Decided => "decided",
+            Rule::Fork => "fork",
+            Rule::Target => "target",
+            Rule::Keep => "keep",
+            Rule::Cases => "cases",
+            Rule::Return => "return",
+            Rule::Address => "address",
+            Rule::Vertex => "vertex",
+            Rule::Register => "register",
+            Rule::Flags => "flags",
+            Rule::Bound => "bound",
+            Rule::Cell => "cell",
+            Rule::Functions => "functions",
+            Rule::Refused => "refused",
+            Rule::Frame => "frame",
+            Rule::Reason => "reason",
+            Rule::Outside => "outside",
+            Rule::Assumed => "assumed",
+            Rule::Forked => "forked",
+            Rule::Inedge => "inedge",
+            Rule::Exact => "exact",
+        }
+    }
 }

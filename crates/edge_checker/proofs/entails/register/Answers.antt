@@ -1,5 +1,5 @@
 -- A register without a place has the default, which is unknown.
-use Rattle.std.proofs.Common.{◌≡◌, ℕ, None, sym}
+use Rattle.std.proofs.Common.{None, sym}
 use Rattle.edge_checker.proofs.PlaceLemmas.{get_or-past}
 use Rattle.edge_checker.proofs.entails.register.Goals as goal
 

@@ -1,4 +1,3 @@
-use Rattle.edge_checker.specs.Breaks.{vertex_breaks}
 use Rattle.std.proofs.Common.{refl}
 use Rattle.edge_checker.proofs.FirstLemmas.{stops, goes_on, ends}
 use Rattle.edge_checker.proofs.PlaceLemmas.{numbered_within, numbered_past, numbered_at}

@@ -1,5 +1,6 @@
-use Rattle.std.proofs.Common.{◌≡◌, ℕ, true, sym, ◌∙◌, ap}
-use Rattle.edge_checker.specs.Breaks.{first, begins}
+use Rattle.std.proofs.Common.{◌≡◌, true, sym, ◌∙◌, ap}
+use Rattle.edge_checker.specs.Breaks.{first}
+use Rattle.edge_checker.specs.Tests.{begins}
 use Rattle.edge_checker.specs.Rules.{vertex_at}
 use Rattle.edge_checker.proofs.FirstLemmas.{stops, goes_on}
 use Rattle.edge_checker.proofs.BreakLemmas.{function_breaks-begins}

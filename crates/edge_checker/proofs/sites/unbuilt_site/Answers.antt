@@ -1,4 +1,3 @@
-use Rattle.std.proofs.Common.{◌≡◌, ℕ}
 use Rattle.edge_checker.specs.Instruction.{instruction_at}
 use Rattle.edge_checker.specs.Breaks.{unbuilt_at}
 use Rattle.edge_checker.proofs.FirstLemmas.{starts, stops, goes_on, ends}

@@ -1,5 +1,5 @@
 -- With one edge the first break is that of the edge.
-use Rattle.std.proofs.Common.{◌≡◌, ℕ, Some, None, sym, ◌∙◌, ap}
+use Rattle.std.proofs.Common.{Some, sym, ◌∙◌, ap}
 use Rattle.std.specs.Option.{option_map}
 use Rattle.edge_checker.specs.Breaks.{broken}
 use Rattle.edge_checker.proofs.BreakLemmas.{step_breaks-one}

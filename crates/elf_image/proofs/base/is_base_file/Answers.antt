@@ -1,5 +1,5 @@
 -- A file begins with the headers of its own size exactly where it is a base file.
-use Rattle.std.proofs.Common.{◌≡◌, ℕ, ◌++◌, List, length}
+use Rattle.std.proofs.Common.{◌++◌, length}
 use Rattle.std.proofs.lemmas.Slice.Eq.{starts_is}
 use Rattle.std.proofs.lemmas.Bool.Decides.{Decides-eqb}
 use Rattle.elf_image.specs.BaseFile.{file_header, program_header}

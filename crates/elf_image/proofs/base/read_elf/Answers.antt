@@ -1,5 +1,5 @@
 -- What is given is the image of the whole file, which is that of its code.
-use Rattle.std.proofs.Common.{◌≡◌, ℕ, List, IsTrue}
+use Rattle.std.proofs.Common.{IsTrue}
 use Rattle.elf_image.proofs.BaseFileLemmas.{base_image-loaded, found_whole}
 use Rattle.elf_image.proofs.base.read_elf.Goals as goal
 

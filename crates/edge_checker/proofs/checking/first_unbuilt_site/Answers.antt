@@ -1,6 +1,6 @@
 use Rattle.edge_checker.specs.Breaks.{unbuilt_in}
 use Rattle.edge_checker.proofs.FirstLemmas.{starts, stops, goes_on, ends}
-use Rattle.edge_checker.proofs.checking.first_unbuilt.Goals as goal
+use Rattle.edge_checker.proofs.checking.first_unbuilt_site.Goals as goal
 
 pub loop-function-init : goal.loop-function-init
 loop-function-init c = starts (unbuilt_in c.args.image.now) c.args.g.now.functions
