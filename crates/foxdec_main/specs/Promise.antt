@@ -40,7 +40,8 @@ pub record Gives (out err : Stream) (status : ℕ) (ending : Ending) : Type 0 wh
   pub text : Says err (text_of ending)
 
 -- A run ended in one of the ways, which its cause shows, and gave what is its.
-pub record Ends (files : Files) (out err : Stream) (request : Option Asked) (status : ℕ) : Type 0 where
+pub record Ends (files : Files) (out err : Stream) (request : Option Asked) (status : ℕ)
+    : Type 0 where
   pub ending : Ending
   pub caused : IsCaused files (HasTrouble out) request ending
   pub gives : Gives out err status ending

@@ -6,7 +6,8 @@ use Rattle.foxdec_main.specs.Outcome.{Allows, IsNoFormOf}
 use Rattle.foxdec_main.specs.Outside.{Files, ReadFailed}
 
 -- The bytes are of this value, and of no other.
-pub record IsOnlyOf {X : Type 0} (Form : List ℕ → X → Type 0) (bytes : List ℕ) (x : X) : Type 0 where
+pub record IsOnlyOf {X : Type 0} (Form : List ℕ → X → Type 0) (bytes : List ℕ) (x : X)
+    : Type 0 where
   pub form : Form bytes x
   pub only : (y : X) → Form bytes y → x ≡ y
 

@@ -61,8 +61,8 @@ impl<R: Files> Shelf for FileShelf<'_, R> {
     }
 }
 
-// Reads at most so many bytes, on from where the file stands. It is opened anew where another one was
-// read last or an earlier place is asked, and closed where it failed.
+// Reads at most so many bytes, on from where the file stands. It is opened anew where another one
+// was read last or an earlier place is asked, and closed where it failed.
 fn read_piece<R: Files>(
     alloc: Global,
     rt: &R,
