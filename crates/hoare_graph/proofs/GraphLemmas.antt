@@ -34,13 +34,13 @@ pub record Parts (g : Graph) : Type 0 where
 
 of_function : (g : Graph) (f : Function) → g.functions ≡ f ∷ [] → IsFunction f → HasUsualFrame f → Parts g
 of_function g f e is usual_frame = record {
-    entry = f.entry;
-    sites = f.sites;
-    is = let h : g ≡ record { functions = f ∷ [] } = ap (λ fs. record { functions = fs }) e in
-        h ∙ ap (λ n. record { functions = record f { below = n } ∷ [] }) usual_frame.below ∙ ap (λ n. record { functions = record f { below = 65536; above = n } ∷ [] }) usual_frame.above;
-    fits = is.entry;
-    are = (is.sites, usual_frame.sites);
-    whole = (refl, is.some, is.ascending);
+  entry = f.entry;
+  sites = f.sites;
+  is = let h : g ≡ record { functions = f ∷ [] } = ap (λ fs. record { functions = fs }) e in
+      h ∙ ap (λ n. record { functions = record f { below = n } ∷ [] }) usual_frame.below ∙ ap (λ n. record { functions = record f { below = 65536; above = n } ∷ [] }) usual_frame.above;
+  fits = is.entry;
+  are = (is.sites, usual_frame.sites);
+  whole = (refl, is.some, is.ascending);
 }
 
 pub parts_of : (g : Graph) → IsFirstPath g → Parts g
@@ -88,12 +88,12 @@ head_again entry rest fits =
 
 pub is_first : (entry : ℕ) (sites : List Site) (rest : List ℕ) → entry < 2 ^ 64 → AreSites sites → AreWhole sites rest → IsFirstPath (lone_function entry sites)
 is_first entry sites rest fits are whole = record {
-    well_formed = record {
-        functions = (record { entry = fits; below = lit< tt; above = lit< tt; some = whole.1; sites = are.0; ascending = whole.2 }, tt);
-        ascending = tt;
-    };
-    one = refl;
-    functions = (record { below = refl; above = refl; sites = are.1 }, tt);
+  well_formed = record {
+    functions = (record { entry = fits; below = lit< tt; above = lit< tt; some = whole.1; sites = are.0; ascending = whole.2 }, tt);
+    ascending = tt;
+  };
+  one = refl;
+  functions = (record { below = refl; above = refl; sites = are.1 }, tt);
 }
 
 pub found_graph : (text behind rest : List ℕ) (entry : ℕ) (sites : List Site) → text ≡ head_text entry ++ behind → behind ≡ flat_map site_text sites ++ rest → AreWhole sites rest → text ≡ graph_text (lone_function entry sites)

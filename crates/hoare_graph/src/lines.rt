@@ -10,7 +10,9 @@ ghost use Rattle.hoare_graph.specs.Reading.{Reads, FitsOneEdge, head_text, name_
 
 use crate::graph::{Kind, Pred, Site, Term, Vertex};
 use crate::refusal::GraphRefusal;
-use crate::words::{read_count, read_hex, read_term, read_value, read_word, split_word, strip_word};
+use crate::words::{
+    read_count, read_hex, read_term, read_value, read_word, split_word, strip_word,
+};
 use crate::writing::{is_entry, register_name};
 use sqlite_items::Items;
 use std::alloc::Global;
@@ -64,10 +66,7 @@ fn read_register(
     }
 }
 
-fn read_entries(
-    alloc: Global,
-    bytes: &[u8],
-) -> Result<(Items<Option<Term>>, &[u8]), GraphRefusal>
+fn read_entries(alloc: Global, bytes: &[u8]) -> Result<(Items<Option<Term>>, &[u8]), GraphRefusal>
     ensures exact { Reads (λ x. (x.0, x.1.now)) result (entries_at 16 0 bytes.now) }
     ensures count { IfOk result (λ x. length x.0 ≡ 16) }
     ensures values { IfOk result (λ x. Each IsValue x.0) }
@@ -103,10 +102,7 @@ static ENTRY_VALUES: [Option<Term>; 16] = [
 ];
 
 #[tactic(auto, unfolding(crate::specs::Reading::registers_at))]
-fn read_registers(
-    alloc: Global,
-    bytes: &[u8],
-) -> Result<(Items<Option<Term>>, &[u8]), GraphRefusal>
+fn read_registers(alloc: Global, bytes: &[u8]) -> Result<(Items<Option<Term>>, &[u8]), GraphRefusal>
     ensures exact { Reads (λ x. (x.0, x.1.now)) result (registers_at bytes.now) }
     ensures count { IfOk result (λ x. length x.0 ≡ 16) }
     ensures values { IfOk result (λ x. Each IsValue x.0) }

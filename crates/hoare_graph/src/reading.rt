@@ -82,5 +82,4 @@ pub fn one_text(a: &Graph, b: &Graph)
     requires second { IsFirstPath b.now }
     requires text { graph_text a.now ≡ graph_text b.now }
     ensures { a.now ≡ b.now }
-{
-}
+{}

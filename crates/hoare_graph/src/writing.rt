@@ -172,7 +172,12 @@ fn put_edges(alloc: Global, out: &mut Vec<u8>, edges: &[(u64, u32)]) -> Result<(
     out.extend_from_slice(b"\n")
 }
 
-fn put_vertex(alloc: Global, out: &mut Vec<u8>, number: u64, vertex: &Vertex) -> Result<(), AllocError>
+fn put_vertex(
+    alloc: Global,
+    out: &mut Vec<u8>,
+    number: u64,
+    vertex: &Vertex,
+) -> Result<(), AllocError>
     requires { length vertex.now.pred.regs ≤ 16 }
     ensures { OnOk result (out.new.items ≡ out.old.items ++ vertex_text (number, vertex.now)) }
 {

@@ -12,9 +12,9 @@ loop-behind-preserved c =
     let l = c.loop-behind in
     let s = c.in_ok-site.site in
     rw c.in_ok-push.ensures.ok (record {
-        sites = (each_push IsSite l.sites s l.invariant.sites.0 c.in_ok-site.ensures.site, each_push HasOneVertex l.sites s l.invariant.sites.1 c.in_ok-site.ensures.one);
-        found = found_site l.sites s _ _ _ _ l.invariant.found c.in-Some.ensures.found c.in_ok-site.ensures.found;
-        only = λ all are e. left_more l.sites all l.rest.now c.in-Some.behind.now s c.in_ok-site.next.now (l.invariant.only all are e) c.in-Some.ensures.found c.in_ok-site.ensures.exact;
+      sites = (each_push IsSite l.sites s l.invariant.sites.0 c.in_ok-site.ensures.site, each_push HasOneVertex l.sites s l.invariant.sites.1 c.in_ok-site.ensures.one);
+      found = found_site l.sites s _ _ _ _ l.invariant.found c.in-Some.ensures.found c.in_ok-site.ensures.found;
+      only = λ all are e. left_more l.sites all l.rest.now c.in-Some.behind.now s c.in_ok-site.next.now (l.invariant.only all are e) c.in-Some.ensures.found c.in_ok-site.ensures.exact;
     })
 
 pub returns-in_err-site-clause-only : goal.returns-in_err-site-clause-only

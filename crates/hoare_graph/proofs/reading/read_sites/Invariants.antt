@@ -8,9 +8,9 @@ use Rattle.hoare_graph.proofs.reading.read_sites.Given as goal
 
 abbrev pub invariant-loop-behind : goal.invariant-loop-behind
 invariant-loop-behind l = record {
-    sites : AreSites l.sites;
-    found : l.bytes ≡ flat_map site_text l.sites ++ l.rest;
-    only : (sites : List Site) → AreSites sites → l.bytes ≡ flat_map site_text sites ++ codes "end\n" → Left l.sites l.rest sites;
+  sites : AreSites l.sites;
+  found : l.bytes ≡ flat_map site_text l.sites ++ l.rest;
+  only : (sites : List Site) → AreSites sites → l.bytes ≡ flat_map site_text sites ++ codes "end\n" → Left l.sites l.rest sites;
 }
 
 abbrev pub decreases-loop-behind : goal.decreases-loop-behind
