@@ -105,7 +105,7 @@ pub fn foxdec<S: Shelf, O: Sink, E: Sink>(
     // to, or memory ran out.
     ensures complete { (asked : Asked) → Ask words.now asked →
         ((name : List ℕ) →
-            IsUnreadable (files_of S.file S.faults shelf.old shelf.new) asked name → ⊥) →
+        IsUnreadable (files_of S.file S.faults shelf.old shelf.new) asked name → ⊥) →
         (HasTrouble (stream_of O.written O.faults O.stalls out.old out.new) → ⊥) →
         IsAnswered result ⊎ (result ≡ 7) }
 
@@ -158,7 +158,7 @@ pub fn foxdec_quiet<E: Sink>(
         ⟦<QuietSink as Sink>⟧.written out.old ≡ Some bytes →
         length bytes + length (output_of due) ≤ most →
         Gives (stream_of ⟦<QuietSink as Sink>⟧.written ⟦<QuietSink as Sink>⟧.faults
-            ⟦<QuietSink as Sink>⟧.stalls out.old out.new)
+        ⟦<QuietSink as Sink>⟧.stalls out.old out.new)
         (stream_of E.written E.faults E.stalls err.old err.new) result due
         ⊎ (result ≡ 7) }
 {
