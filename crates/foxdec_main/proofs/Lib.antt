@@ -1,0 +1,7 @@
+pub mod ShownLemmas
+pub mod TakingLemmas
+pub mod DueLemmas
+pub mod TextLemmas
+pub mod PromiseLemmas
+pub mod CheckLemmas
+pub mod QuietLemmas

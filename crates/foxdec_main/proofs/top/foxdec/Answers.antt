@@ -1,0 +1,36 @@
+use Rattle.foxdec_main.proofs.PromiseLemmas.{two, unreadable, cut, answers, silent_written, decides, completes}
+use Rattle.foxdec_main.proofs.CheckLemmas.{only_valid, all_valid, only_broken, all_broken}
+use Rattle.foxdec_main.proofs.top.foxdec.Goals as goal
+
+pub returns-clause-words : goal.returns-clause-words
+returns-clause-words g c = two _ _ _ _ _ c.run.ensures.ends
+
+pub returns-clause-unreadable : goal.returns-clause-unreadable
+returns-clause-unreadable g c asked request is = unreadable _ _ _ _ asked is (rw request at c.run.ensures.ends)
+
+pub returns-clause-cut_off : goal.returns-clause-cut_off
+returns-clause-cut_off g c asked request is = cut _ _ _ _ asked is (rw request at c.run.ensures.ends)
+
+pub returns-clause-answered : goal.returns-clause-answered
+returns-clause-answered g c asked request is = answers _ _ _ _ asked is (rw request at c.run.ensures.ends)
+
+pub returns-clause-silent : goal.returns-clause-silent
+returns-clause-silent g c silent = silent_written _ _ _ _ _ silent c.run.ensures.ends
+
+pub returns-clause-decided : goal.returns-clause-decided
+returns-clause-decided g c asked due request told = decides _ _ _ _ asked due told (rw request at c.run.ensures.ends)
+
+pub returns-clause-complete : goal.returns-clause-complete
+returns-clause-complete g c asked request readable calm = completes _ _ _ _ asked readable calm (rw request at c.run.ensures.ends)
+
+pub returns-clause-valid : goal.returns-clause-valid
+returns-clause-valid g c file graph request is = only_valid _ _ _ file graph _ (rw request at c.run.ensures.ends) is
+
+pub returns-clause-all_valid : goal.returns-clause-all_valid
+returns-clause-all_valid g c file graph bytes text request file_is graph_is = all_valid _ _ _ file graph _ (rw request at c.run.ensures.ends) bytes text file_is graph_is
+
+pub returns-clause-invalid : goal.returns-clause-invalid
+returns-clause-invalid g c file graph request is = only_broken _ _ _ file graph _ (rw request at c.run.ensures.ends) is
+
+pub returns-clause-all_invalid : goal.returns-clause-all_invalid
+returns-clause-all_invalid g c file graph bytes text broken request file_is graph_is = all_broken _ _ _ file graph _ (rw request at c.run.ensures.ends) bytes text file_is graph_is broken

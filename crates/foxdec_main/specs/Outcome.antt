@@ -1,0 +1,69 @@
+-- What the files of a command come to, as far as their bytes are told.
+use Rattle.std.specs.Prelude.{◌≡◌, ◌⊎◌, ℕ, ◌≤◌, List, length, Some}
+use Rattle.std.specs.declared.option.Option.{Option}
+use Rattle.wire_io.specs.Shelf.{IsAll}
+use Rattle.elf_image.specs.declared.image.Image.{Image}
+use Rattle.elf_image.specs.BaseFile.{base_file, base_image}
+use Rattle.hoare_graph.specs.declared.graph.Graph.{Graph}
+use Rattle.hoare_graph.specs.FirstPath.{IsFirstPath}
+use Rattle.hoare_graph.specs.Text.{graph_text}
+use Rattle.edge_checker.specs.Breaks.{verdict_of}
+use Rattle.foxdec_main.specs.Words.{Asked, check}
+use Rattle.foxdec_main.specs.Ending.{Ending, not_built}
+use Rattle.foxdec_main.specs.VerdictLine.{judged}
+
+-- the most bytes of a file
+abbrev pub limit : ℕ
+limit = 67108864
+
+-- The bytes are a base file within the limit, and this is its image.
+pub record IsExecutable (bytes : List ℕ) (image : Image) : Type 0 where
+  pub within : length bytes ≤ limit
+  pub code : List ℕ
+  pub spelled : bytes ≡ base_file code
+  pub loaded : image ≡ base_image code
+
+-- The bytes are the text of this graph, within the limit.
+pub record IsGraphText (bytes : List ℕ) (g : Graph) : Type 0 where
+  pub within : length bytes ≤ limit
+  pub first_path : IsFirstPath g
+  pub spelled : bytes ≡ graph_text g
+
+-- a file is told, and this holds of its bytes
+abbrev pub Tells : Option (List ℕ) → (List ℕ → Type 0) → Type 0
+Tells told Holds = (bytes : List ℕ) × (told ≡ Some bytes) × Holds bytes
+
+-- this holds of bytes that are the file's where it is told
+abbrev pub Allows : Option (List ℕ) → (List ℕ → Type 0) → Type 0
+Allows told Holds = (bytes : List ℕ) × IsAll bytes told × Holds bytes
+
+-- the bytes are of no value
+abbrev pub IsNoFormOf : {X : Type 0} → (List ℕ → X → Type 0) → List ℕ → Type 0
+IsNoFormOf {X = X} Form bytes = (x : X) → Form bytes x → ⊥
+
+-- the bytes are of no value and are refused, or are of one, and what comes next holds of it
+abbrev pub Takes : {X : Type 0} → (List ℕ → X → Type 0) → Type 0 → (X → Type 0) → List ℕ → Type 0
+Takes {X = X} Form Refused Next bytes =
+    (IsNoFormOf Form bytes × Refused) ⊎ ((x : X) × Form bytes x × Next x)
+
+-- The ending that files come to. `check` takes the executable first, then the graph, and then the
+-- verdict of both. `Of` says of which bytes of a file it speaks: the told ones, or any allowed.
+abbrev pub ComesTo : (Option (List ℕ) → (List ℕ → Type 0) → Type 0)
+    → (List ℕ → Option (List ℕ)) → Asked → Ending → Type 0
+ComesTo Of told (check file graph) ending =
+    Of (told file) (Takes IsExecutable (ending ≡ not_built file) (λ image.
+    Of (told graph) (Takes IsGraphText (ending ≡ not_built graph) (λ g.
+    ending ≡ judged graph (verdict_of image g)))))
+
+-- The ending is the one that the files come to, as far as they are told.
+pub record IsDue (told : List ℕ → Option (List ℕ)) (asked : Asked) (ending : Ending) : Type 0 where
+  -- what is told of them allows it
+  pub allowed : ComesTo Allows told asked ending
+  -- and where they decide an ending, it is this one
+  pub decided : (other : Ending) → ComesTo Tells told asked other → ending ≡ other
+
+-- a command reads this file: the graph only where the executable is not refused
+abbrev pub Reads : (List ℕ → Option (List ℕ)) → Asked → List ℕ → Type 0
+Reads told (check file graph) name =
+    (name ≡ file)
+    ⊎ ((name ≡ graph) × Allows (told file) (λ bytes. (image : Image) × IsExecutable bytes image))

@@ -1,0 +1,143 @@
+// What each command does, up to its output.
+ghost use Rattle.std.specs.Prelude.{◌≡◌, ◌≤◌, length, map, string_bytes, IfOk, IfErr, Some};
+ghost use Rattle.wire_io.specs.Shelf.{GoesOn};
+ghost use Rattle.hoare_graph.specs.WellFormed.{IsWellFormed};
+ghost use Rattle.edge_checker.specs.Breaks.{verdict_of};
+ghost use Rattle.foxdec_main.specs.Words.{check, request_of};
+ghost use Rattle.foxdec_main.specs.VerdictLine.{judged};
+ghost use Rattle.foxdec_main.specs.Outcome.{limit, IsExecutable, IsGraphText, Allows};
+ghost use Rattle.foxdec_main.specs.Outside.{files_of};
+ghost use Rattle.foxdec_main.specs.Promise.{IsShown, IsCaused};
+ghost use Rattle.foxdec_main.specs.Taking.{IsOnlyOf, IsFormless, IsRefused, FailedRead, NoRead, IsOrMemory};
+ghost use Rattle.foxdec_main.specs.Seen.{refused_of, ending_of};
+
+use crate::ending::{Output, Refusal};
+use crate::verdict_line::conclude;
+use crate::words::{Request, read_words};
+use elf_image::{ElfRefusal, Image, read_elf};
+use hoare_graph::{Graph, GraphRefusal, read_graph};
+use std::alloc::Global;
+use wire_io::{ReadRefusal, Shelf, read_whole};
+
+/// The most bytes of a file.
+const LIMIT: u64 = 67_108_864;
+
+/// Does what the words ask, up to the output.
+pub fn answer<'a, S: Shelf>(
+    alloc: Global,
+    words: &'a [String],
+    shelf: &mut S,
+) -> Result<Output, Refusal<'a>>
+    ensures { IsCaused (files_of S.file S.faults shelf.old shelf.new) ⊥
+        (request_of (map string_bytes words.now)) (ending_of result) }
+{
+    match read_words(words) {
+        None => Err(Refusal::NotACommand),
+        Some(Request::Check { file, graph }) => check(alloc, shelf, file, graph),
+    }
+}
+
+// Whether a graph holds of an executable.
+fn check<'a, S: Shelf>(
+    alloc: Global,
+    shelf: &mut S,
+    file: &'a str,
+    graph: &'a str,
+) -> Result<Output, Refusal<'a>>
+    ensures { IsCaused (files_of S.file S.faults shelf.old shelf.new) ⊥
+        (Some (check file.now graph.now)) (ending_of result) }
+{
+    let image = match take_executable(alloc, shelf, file) {
+        Ok(image) => image,
+        Err(refusal) => return Err(refusal),
+    };
+    let g = match take_graph(alloc, shelf, graph) {
+        Ok(g) => g,
+        Err(refusal) => return Err(refusal),
+    };
+    judge(alloc, graph, &image, &g)
+}
+
+// Reads the file of an executable.
+fn take_executable<'a, S: Shelf>(
+    alloc: Global,
+    shelf: &mut S,
+    name: &'a str,
+) -> Result<Image, Refusal<'a>>
+    ensures found { IfOk result (λ image.
+        Allows (S.file shelf.old name.now) (λ bytes. IsOnlyOf IsExecutable bytes image)) }
+    ensures err { IfErr result (λ r. IsShown
+        (IsRefused IsExecutable (S.file shelf.old name.now) name.now)
+        (FailedRead (files_of S.file S.faults shelf.old shelf.new) name.now) ⊥ (refused_of r)) }
+    ensures shelf { GoesOn (S.file shelf.old) (S.file shelf.new)
+        (S.faults shelf.old) (S.faults shelf.new) }
+{
+    match read_whole(alloc, shelf, name, LIMIT) {
+        Ok(bytes) => image_of(alloc, name, &bytes),
+        Err(ReadRefusal::TooLong) => Err(Refusal::NotBuilt(name)),
+        Err(ReadRefusal::Failed) => Err(Refusal::ReadFailed(name)),
+        Err(ReadRefusal::NoMemory) => Err(Refusal::OutOfMemory),
+    }
+}
+
+// The image of an executable's bytes.
+fn image_of<'a>(alloc: Global, name: &'a str, bytes: &[u8]) -> Result<Image, Refusal<'a>>
+    requires { length bytes.now ≤ limit }
+    ensures found { IfOk result (IsOnlyOf IsExecutable bytes.now) }
+    ensures err { IfErr result (λ r.
+        IsShown (IsFormless IsExecutable bytes.now name.now) NoRead ⊥ (refused_of r)) }
+{
+    match read_elf(alloc, bytes) {
+        Ok(image) => Ok(image),
+        Err(ElfRefusal::NotBuilt) => Err(Refusal::NotBuilt(name)),
+        Err(ElfRefusal::NoMemory) => Err(Refusal::OutOfMemory),
+    }
+}
+
+// Reads the file of a graph.
+fn take_graph<'a, S: Shelf>(
+    alloc: Global,
+    shelf: &mut S,
+    name: &'a str,
+) -> Result<Graph, Refusal<'a>>
+    ensures found { IfOk result (λ g.
+        Allows (S.file shelf.old name.now) (λ bytes. IsOnlyOf IsGraphText bytes g)) }
+    ensures well_formed { IfOk result IsWellFormed }
+    ensures err { IfErr result (λ r. IsShown
+        (IsRefused IsGraphText (S.file shelf.old name.now) name.now)
+        (FailedRead (files_of S.file S.faults shelf.old shelf.new) name.now) ⊥ (refused_of r)) }
+    ensures shelf { GoesOn (S.file shelf.old) (S.file shelf.new)
+        (S.faults shelf.old) (S.faults shelf.new) }
+{
+    match read_whole(alloc, shelf, name, LIMIT) {
+        Ok(bytes) => graph_of(alloc, name, &bytes),
+        Err(ReadRefusal::TooLong) => Err(Refusal::NotBuilt(name)),
+        Err(ReadRefusal::Failed) => Err(Refusal::ReadFailed(name)),
+        Err(ReadRefusal::NoMemory) => Err(Refusal::OutOfMemory),
+    }
+}
+
+// The graph of a text.
+fn graph_of<'a>(alloc: Global, name: &'a str, bytes: &[u8]) -> Result<Graph, Refusal<'a>>
+    requires { length bytes.now ≤ limit }
+    ensures found { IfOk result (IsOnlyOf IsGraphText bytes.now) }
+    ensures err { IfErr result (λ r.
+        IsShown (IsFormless IsGraphText bytes.now name.now) NoRead ⊥ (refused_of r)) }
+{
+    match read_graph(alloc, bytes) {
+        Ok(g) => Ok(g),
+        Err(GraphRefusal::NotBuilt) => Err(Refusal::NotBuilt(name)),
+        Err(GraphRefusal::NoMemory) => Err(Refusal::OutOfMemory),
+    }
+}
+
+// The output of `check`, or why there is none.
+fn judge<'a>(alloc: Global, graph: &'a str, image: &Image, g: &Graph) -> Result<Output, Refusal<'a>>
+    requires { IsWellFormed g.now }
+    ensures { IsOrMemory (judged graph.now (verdict_of image.now g.now)) (ending_of result) }
+{
+    match edge_checker::check(alloc, image, g, None) {
+        Ok(verdict) => conclude(alloc, graph, verdict),
+        Err(_) => Err(Refusal::OutOfMemory),
+    }
+}

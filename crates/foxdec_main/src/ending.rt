@@ -1,0 +1,93 @@
+// How a run ends, and what it says then.
+ghost use Rattle.std.specs.Prelude.{◌≡◌, ◌++◌, codes};
+ghost use Rattle.std.specs.Fmt.{decimal};
+ghost use Rattle.std.specs.List.{flat_map};
+ghost use Rattle.foxdec_main.specs.Ending.{site_not_built, status_of, text_of};
+ghost use Rattle.foxdec_main.specs.Outside.{stream_of, Says};
+ghost use Rattle.foxdec_main.specs.Seen.{refused_of};
+
+use itoa::Buffer;
+use wire_io::{Sink, put_all};
+
+/// What a command prints, and whether the graph is valid.
+#[derive(Drop)]
+pub struct Output {
+    pub valid: bool,
+    pub bytes: Vec<u8>,
+}
+
+/// Why a run prints nothing. First comes the name of the file that it is about.
+#[derive(Drop)]
+pub enum Refusal<'a> {
+    NotACommand,
+    ReadFailed(&'a str),
+    NotBuilt(&'a str),
+    /// With the digits of the site's address.
+    SiteNotBuilt(&'a str, String),
+    OutOfMemory,
+}
+
+impl Refusal<'_> {
+    pub fn status(&self) -> u8
+        ensures { result ≡ status_of (refused_of self.now) }
+    {
+        match self {
+            Refusal::NotACommand => 2,
+            Refusal::ReadFailed(_) => 3,
+            Refusal::NotBuilt(_) | Refusal::SiteNotBuilt(_, _) => 9,
+            Refusal::OutOfMemory => 7,
+        }
+    }
+}
+
+/// Says why nothing is printed. It takes no memory.
+pub fn say_refusal<E: Sink>(err: &mut E, refusal: &Refusal<'_>)
+    ensures { Says (stream_of E.written E.faults E.stalls err.old err.new)
+        (text_of (refused_of refusal.now)) }
+{
+    match refusal {
+        Refusal::NotACommand => put_pieces(err, &[b"foxdec: the words are not a command\n"]),
+        Refusal::ReadFailed(name) => {
+            put_pieces(err, &[b"foxdec: ", name.as_bytes(), b": read failed\n"]);
+        }
+        Refusal::NotBuilt(name) => {
+            put_pieces(err, &[b"foxdec: ", name.as_bytes(), b": not built yet\n"]);
+        }
+        Refusal::SiteNotBuilt(name, site) => say_site(err, name.as_bytes(), site.as_bytes()),
+        Refusal::OutOfMemory => put_pieces(err, &[b"foxdec: out of memory\n"]),
+    }
+}
+
+// Says which site of a graph is not built.
+fn say_site<'b, E: Sink>(err: &mut E, name: &'b [u8], site: &'b [u8])
+    ensures { Says (stream_of E.written E.faults E.stalls err.old err.new)
+        (text_of (site_not_built name.now site.now)) }
+{
+    put_pieces(
+        err,
+        &[b"foxdec: ", name, b": site ", site, b": not built yet\n"],
+    );
+}
+
+/// Says that the output was cut off after so many bytes. It takes no memory.
+pub fn say_write_failed<E: Sink>(err: &mut E, taken: u64)
+    ensures { Says (stream_of E.written E.faults E.stalls err.old err.new)
+        (codes "foxdec: write failed after " ++ decimal taken ++ codes " bytes\n") }
+{
+    let mut digits = Buffer::new();
+    let number = digits.format(taken).as_bytes();
+    put_pieces(err, &[b"foxdec: write failed after ", number, b" bytes\n"]);
+}
+
+// Writes pieces one after another, as far as the stream takes them.
+fn put_pieces<E: Sink>(err: &mut E, pieces: &[&[u8]])
+    ensures { Says (stream_of E.written E.faults E.stalls err.old err.new)
+        (flat_map (λ piece. piece.now) pieces.now) }
+{
+    for piece in pieces {
+        match put_all(err, piece) {
+            Ok(()) => {}
+            Err(_) => return,
+        }
+    }
+}
