@@ -1,0 +1,66 @@
+#!/usr/bin/env python3
+"""Writes the example executables beside this script.
+
+Each is the smallest kind that FoxDec takes: an ELF-64 file header, one program
+header that loads the whole file, and the code. Each line below is one field, in
+the order of the ELF-64 specification.
+"""
+import pathlib
+import struct
+
+HEADERS = 64 + 56
+ADDRESS = 0x400000
+
+EXAMPLES = {
+    "ret.elf": "C3",                         # ret
+    "move.elf": "48B8 FFFFFFFFFFFFFFFF C3",  # mov rax, -1; ret
+}
+
+
+def half(n):
+    return struct.pack("<H", n)
+
+
+def word(n):
+    return struct.pack("<I", n)
+
+
+def xword(n):
+    return struct.pack("<Q", n)
+
+
+FILE_HEADER = b"".join([
+    b"\x7fELF",                  # e_ident: magic number
+    bytes([2, 1, 1]),            # 64-bit, little endian, version 1
+    bytes(9),                    # padding
+    half(2),                     # e_type: executable
+    half(62),                    # e_machine: x86-64
+    word(1),                     # e_version
+    xword(ADDRESS + HEADERS),    # e_entry: the code's first byte
+    xword(64),                   # e_phoff
+    xword(0),                    # e_shoff
+    word(0),                     # e_flags
+    half(64),                    # e_ehsize
+    half(56),                    # e_phentsize
+    half(1),                     # e_phnum
+    half(0), half(0), half(0),   # no section headers
+])
+
+
+def program_header(size):
+    return b"".join([
+        word(1),                 # p_type: load
+        word(5),                 # p_flags: read and execute
+        xword(0),                # p_offset
+        xword(ADDRESS),          # p_vaddr
+        xword(ADDRESS),          # p_paddr
+        xword(size),             # p_filesz
+        xword(size),             # p_memsz
+        xword(0x1000),           # p_align
+    ])
+
+
+for name, digits in EXAMPLES.items():
+    code = bytes.fromhex(digits)
+    file = FILE_HEADER + program_header(HEADERS + len(code)) + code
+    pathlib.Path(__file__).with_name(name).write_bytes(file)
