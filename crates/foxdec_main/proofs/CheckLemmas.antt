@@ -13,7 +13,7 @@ use Rattle.edge_checker.proofs.ValidLemmas.{valid_exactly}
 use Rattle.foxdec_main.specs.Words.{check}
 use Rattle.foxdec_main.specs.Ending.{Ending, not_built, status_of, output_of}
 use Rattle.foxdec_main.specs.VerdictLine.{judged, valid_line, invalid_line}
-use Rattle.foxdec_main.specs.Outcome.{IsExecutable, IsGraphText, Tells, Allows, IsNoFormOf, ComesTo}
+use Rattle.foxdec_main.specs.Outcome.{IsExecutable, IsGraphText, Allows, IsNoFormOf, ComesTo}
 use Rattle.foxdec_main.specs.Outside.{Files, Stream, Adds}
 use Rattle.foxdec_main.specs.Promise.{Gives, Ends, IsExcused, GivesDue, HoldsOf, AllowsBoth, IsFirstBroken}
 use Rattle.foxdec_main.proofs.PromiseLemmas.{answers, decides}

@@ -1,9 +1,7 @@
 -- Files that are taken as values one after another, and the ending that they come to.
-use Rattle.std.proofs.Common.{◌≡◌, ◌⊎◌, inl, inr, ℕ, ◌<◌, ◌≤◌, List, [], length, refl, sym, ◌∙◌, ap, subst, Some, None, arith}
+use Rattle.std.proofs.Common.{◌≡◌, inl, inr, ℕ, ◌≤◌, List, [], length, refl, sym, ◌∙◌, subst, Some, None, arith}
 use Rattle.std.specs.declared.option.Option.{Option}
 use Rattle.wire_io.specs.Shelf.{IsAll, IsLonger}
-use Rattle.elf_image.specs.declared.image.Image.{Image}
-use Rattle.hoare_graph.specs.declared.graph.Graph.{Graph}
 use Rattle.foxdec_main.specs.Ending.{Ending}
 use Rattle.foxdec_main.specs.Outcome.{limit, IsExecutable, IsGraphText, Tells, Allows, IsNoFormOf, Takes}
 use Rattle.foxdec_main.specs.Taking.{IsOnlyOf, IsFormless, IsRefused}
