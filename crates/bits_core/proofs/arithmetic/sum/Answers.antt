@@ -1,0 +1,22 @@
+-- The two exact sums are small, so 128 bits hold them.
+use Rattle.bits_core.proofs.IntegerLemmas.{sum_back, carry_small_at}
+use Rattle.bits_core.proofs.arithmetic.sum.Goals as goal
+
+pub returns : goal.returns
+returns c =
+    let h = c.integer.ensures in
+    let i = c.integer-2.ensures in
+    let j = c.integer-3.ensures in
+    let k = c.integer-4.ensures in
+    let l = carry_small_at c.args.carry c.from.result c.from-carry_in.result c.from.ensures c.from-carry_in.ensures in
+    cc (
+      sum_back c.integer.result c.integer-2.result c.from-carry_in.result (record { least = h.least; most = h.most }) (record { least = i.least; most = i.most }) l,
+      sum_back c.integer-3.result c.integer-4.result c.from-carry_in.result (record { least = j.least; most = j.most }) (record { least = k.least; most = k.most }) l,
+      c.with_flags.ensures,
+      h.value,
+      i.value,
+      j.value,
+      k.value,
+      c.from.ensures,
+      c.from-carry_in.ensures,
+    )
