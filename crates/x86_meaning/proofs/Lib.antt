@@ -1,3 +1,5 @@
 pub mod OperandLemmas
 pub mod TableLemmas
 pub mod FormLemmas
+pub mod MemoryLemmas
+pub mod StepLemmas

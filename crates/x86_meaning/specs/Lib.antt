@@ -7,3 +7,9 @@ pub mod Operands
 pub mod Spells
 pub mod Kinds
 pub mod Fits
+pub mod Memory
+pub mod State
+pub mod Access
+pub mod Steps
+pub mod Moves
+pub mod Next
