@@ -3,3 +3,4 @@ pub mod TableLemmas
 pub mod FormLemmas
 pub mod MemoryLemmas
 pub mod StepLemmas
+pub mod TextLemmas

@@ -1,6 +1,6 @@
 -- Numbers of bytes, and bytes that are in a map.
 use Rattle.std.proofs.Common.{◌≡◌, ◌≢◌, ℕ, zero, suc, ◌+◌, ◌-◌, ◌*◌, ◌^◌, ◌<◌, ◌≤◌, refl, arith, subst}
-use Rattle.std.specs.Prelude.{IsSome, OnOk, Result, Ok, Err}
+use Rattle.std.specs.Prelude.{IsSome}
 use Rattle.std.specs.Ordering.{nat_cmp}
 use Rattle.std.specs.BTreeMap.{BTreeMap}
 use Rattle.std.specs.BTreeMap as tree
@@ -32,8 +32,3 @@ has_first m (suc n) at h x = rw less_one x
 pub has_more : (m : BTreeMap ℕ ℕ) (n at : ℕ) → n ≢ 0 → IsSome (tree.get nat_cmp m at) → HasBytes m (n - 1) (behind 1 at) → HasBytes m n at
 has_more m zero at h x y = absurd (h refl)
 has_more m (suc n) at h x y = (x, rw less_one at y)
-
--- what follows from a fact about a success
-pub on_ok_map : {T E : Type 0} (r : Result T E) {P Q : Type 0} → (P → Q) → OnOk r P → OnOk r Q
-on_ok_map (Ok x) f h = f h
-on_ok_map (Err e) f h = tt

@@ -13,3 +13,5 @@ pub mod Access
 pub mod Steps
 pub mod Moves
 pub mod Next
+pub mod Names
+pub mod InstructionText

@@ -9,10 +9,13 @@ mod laws;
 mod machine;
 mod memory;
 mod moves;
+mod names;
 mod steps;
+mod text;
 
 pub use encoding::{Form, ImmSize, ModRm, Parts, PrefixRule, Row, Sib, Size};
 pub use instr::{Instr, Op, Operand, Place};
 pub use laws::spelled_in_form;
 pub use machine::{Machine, Outcome};
 pub use memory::NoMemory;
+pub use text::write_instr;
