@@ -1,6 +1,6 @@
 -- What is decoded is spelled so, and what is spelled so is decoded.
 use Rattle.std.proofs.Common.{◌≡◌, ℕ, ◌+◌, ◌-◌, ◌^◌, ◌<◌, ◌≤◌, zero, suc, Bool, true, false, cond, eqb, ◌&&◌, lit≤, inl, inr, List, [], ◌∷◌, ◌++◌, length, take, drop, Option, Some, None, refl, sym, ap, subst, ◌∙◌, append_assoc, arith}
-use Rattle.std.specs.Prelude.{IfSome}
+use Rattle.std.specs.Prelude.{IfSome, ◌↔◌}
 use Rattle.std.specs.Option.{ForSome}
 use Rattle.std.proofs.lemmas.List.{length-append, length-take, take-append-drop}
 use Rattle.std.proofs.lemmas.Bool.{and_parts, eqb-true, cases_Bool}
@@ -14,10 +14,10 @@ use Rattle.x86_meaning.specs.declared.encoding.Row.{Row}
 use Rattle.x86_meaning.specs.declared.encoding.ModRm.{ModRm}
 use Rattle.x86_meaning.specs.Fields.{FitsModRm}
 use Rattle.x86_meaning.specs.Sizes.{is_length, imm_len}
-use Rattle.x86_meaning.specs.Operands.{FitsParts}
+use Rattle.x86_meaning.specs.Instructions.{FitsParts}
 use Rattle.x86_meaning.specs.Spells.{Encoding, IsEncoding, IsModRmOf, bytes_of, width, imm_size, meaning, endbr64, endbr64_at, IsEncoded, Spells, IsSpelled, SpellsFront}
 use Rattle.x86_meaning.specs.Fits.{InForm}
-use Rattle.x86_decode.specs.Reading.{prefix_len, rex_at, escaped_at, opcode_at, digit_at, row_at, Front, fields_at, encoding_at, is_endbr64, decode_at, instr_at}
+use Rattle.x86_decode.specs.Reading.{prefix_len, rex_at, escaped_at, opcode_at, digit_at, row_at, fields_at, encoding_at, is_endbr64, decode_at, instr_at}
 use Rattle.x86_decode.proofs.ByteLemmas.{IsBytes, bytes_taken, both_passed, same_given}
 use Rattle.x86_decode.proofs.EncodingLemmas.{encoding_takes, encoding_again}
 
@@ -120,6 +120,11 @@ is_found addr bytes i fits e =
 pub all_found : (addr : ℕ) (bytes : List ℕ) (r : Option Instr) → IsBytes bytes → instr_at addr (take 15 bytes) ≡ r → IfSome r (λ i. Found addr i bytes)
 all_found addr bytes (Some i) fits e = is_found addr bytes i fits e
 all_found addr bytes None fits e = tt
+
+-- where each front's spelling would be given, none is given exactly where there is none
+pub none_is : (addr : ℕ) (bytes : List ℕ) (r : Option Instr) → IfSome r (λ i. Found addr i bytes) → ((i : Instr) → i.addr ≡ addr → SpellsFront i bytes → r ≡ Some i) → (r ≡ None) ↔ ((i : Instr) → i.addr ≡ addr → SpellsFront i bytes → ⊥)
+none_is addr bytes None found only = (λ e i at spells. none-some i (only i at spells), λ h. refl)
+none_is addr bytes (Some j) found only = (λ e. absurd (none-some j (sym e)), λ h. absurd (h j found.0 found.1))
 
 -- by the law of a lower crate what was found is in form
 pub all_in_form : ((i : Instr) → i.addr < 2 ^ 64 → IsSpelled i → InForm i) → (addr : ℕ) (bytes : List ℕ) (r : Option Instr) → addr < 2 ^ 64 → IfSome r (λ i. Found addr i bytes) → IfSome r InForm

@@ -1,5 +1,5 @@
 -- An encoding that is read stands in front of the bytes, and one that stands there is read, whatever follows it.
-use Rattle.std.proofs.Common.{◌≡◌, ℕ, ◌+◌, ◌<◌, Bool, true, false, cond, ◌&&◌, not, eqb, leb, ltb, List, ◌∷◌, ◌++◌, length, take, drop, Option, Some, None, refl, sym, ap, subst, ◌∙◌, append_assoc}
+use Rattle.std.proofs.Common.{◌≡◌, ℕ, ◌+◌, ◌<◌, Bool, true, false, cond, ◌&&◌, not, eqb, List, ◌∷◌, ◌++◌, length, take, drop, Option, Some, None, refl, sym, ap, subst, ◌∙◌, append_assoc}
 use Rattle.std.specs.Prelude.{IfSome}
 use Rattle.std.specs.List.{AllByRecursion, prefix_len as front_len}
 use Rattle.std.proofs.lemmas.Bool.{and_parts, and_from, not-true, agree_below_at}
@@ -12,10 +12,10 @@ use Rattle.x86_meaning.specs.Rows.{is_at, wants, wants_rex, has_modrm, fits_oper
 use Rattle.x86_meaning.specs.Prefixes.{is_prefix, allows}
 use Rattle.x86_meaning.specs.Sizes.{fits_imm}
 use Rattle.x86_meaning.specs.Spells.{Encoding, IsEncoding, IsModRmOf, width, imm_size, bytes_of}
-use Rattle.x86_decode.specs.Reading.{◌>>=◌, prefix_len, rex_at, opcode_at, digit_at, matches, row_at, little_at, modrm_for, Front, encoding, passes, size_at, fields_at, encoding_at}
+use Rattle.x86_decode.specs.Reading.{prefix_len, rex_at, opcode_at, digit_at, matches, row_at, little_at, modrm_for, Front, encoding, passes, size_at, fields_at, encoding_at}
 use Rattle.x86_decode.proofs.ByteLemmas.{IsBytes, bytes_dropped, both_passed, test_passed, Takes, takes_both, little_takes, little_again}
 use Rattle.x86_decode.proofs.StageLemmas.{ModRmStands, modrm_for_takes, modrm_for_again, digit_again, opcode_takes, opcode_again, is_rex, rex_takes, rex_again_some, rex_again_none, prefixes_take, prefixes_again}
-use Rattle.x86_decode.proofs.RowLemmas.{find_takes, row_is_found, is_map, Met, met, is_opcode, opcode_begins, digit_is_free}
+use Rattle.x86_decode.proofs.RowLemmas.{find_takes, row_is_found, is_map, met, is_opcode, opcode_begins, digit_is_free}
 
 -- the bytes behind the prefixes and REX
 abbrev pub behind_rex : Encoding → List ℕ
@@ -96,7 +96,7 @@ fields_take front bytes x fits all low e =
       imm = i_takes.1;
       count = tests.count;
     } in
-    subst (λ (y : Read). Stands front bytes y) test.1 (record { takes = taken; fits = good; prefixes_are = refl; rex_is = refl })
+    subst (λ (y : Read). Stands front bytes y) {x = made} test.1 (record { takes = taken; fits = good; prefixes_are = refl {a = front.prefixes}; rex_is = refl {a = front.rex} })
 
 -- an encoding that is read stands in front
 pub encoding_takes : (bytes : List ℕ) (x : Read) → IsBytes bytes → encoding_at bytes ≡ Some x → Takes bytes (bytes_of x.0) x.1 × IsEncoding x.0
@@ -134,7 +134,6 @@ is_opcode_parts b h =
     let p = and_parts (not (is_prefix b)) (not (is_rex b) && not (eqb b 0x0f)) h in
     let q = and_parts (not (is_rex b)) (not (eqb b 0x0f)) p.1 in
     (not-true (is_prefix b) p.0, not-true (is_rex b) q.0, not-true (eqb b 0x0f) q.1)
-
 
 -- what stands behind the prefixes and REX is read
 pub fields_again : (e : Encoding) (rest : List ℕ) → IsEncoding e → fields_at (record { prefixes = e.prefixes; rex = e.rex }) (behind_rex e ++ rest) ≡ Some (e, rest)

@@ -6,14 +6,10 @@ use Rattle.std.proofs.Math.Numerals.{one-add}
 use Rattle.std.proofs.lemmas.Bool.{eqb-true, and_parts, leb-true, ltb-true, le-leb, lt-ltb, cases_Bool}
 use Rattle.x86_meaning.specs.declared.encoding.Sib.{Sib}
 use Rattle.x86_meaning.specs.declared.encoding.ModRm.{ModRm}
-use Rattle.x86_meaning.specs.Fields.{little, rex_bytes, opcode_bytes, has_sib, sib_bytes, disp_len, modrm_bytes, modrm_part, FitsSib, FitsModRm}
+use Rattle.x86_meaning.specs.Fields.{little, rex_bytes, opcode_bytes, has_sib, sib_bytes, disp_len, modrm_bytes, modrm_part, SibStands, FitsModRm}
 use Rattle.x86_meaning.specs.Prefixes.{is_prefix}
-use Rattle.x86_decode.specs.Reading.{◌>>=◌, rex_at, escaped_at, opcode_at, digit_at, little_at, sib_at, modrm_at, modrm_for}
+use Rattle.x86_decode.specs.Reading.{rex_at, escaped_at, opcode_at, digit_at, little_at, sib_at, modrm_at, modrm_for}
 use Rattle.x86_decode.proofs.ByteLemmas.{IsBytes, bytes_behind, both_passed, same_given, Takes, takes_both, little_takes, little_again}
-
--- there is a SIB byte where there must be, and its fields fit
-abbrev pub SibStands : Bool → Option Sib → Type 0
-SibStands stands s = MatchOption s (stands ≡ false) (λ s. (stands ≡ true) × FitsSib s)
 
 -- a byte is made of two, three and three bits
 pub byte_of_fields : (b : ℕ) → b ≡ 64 * (b / 64) + 8 * (b / 8 % 8) + b % 8

@@ -1,4 +1,4 @@
--- Reading an encoding from left to right: what each stage of the decoder gives, and the bytes after it.
+-- Reading an encoding from left to right: what each stage gives, and the bytes after it.
 use Rattle.std.specs.Prelude.{◌≡◌, ℕ, ◌+◌, ◌-◌, ◌*◌, ◌/◌, ◌%◌, Bool, true, false, ◌&&◌, ◌==◌, nat_lt, nat_le, if◌then◌else◌, List, [], ◌∷◌, length, take, drop, find, Option, Some, None}
 use Rattle.std.specs.List.{prefix_len as front_len}
 use Rattle.x86_meaning.specs.declared.instr.Instr.{Instr}
@@ -10,7 +10,7 @@ use Rattle.x86_meaning.specs.Table.{table}
 use Rattle.x86_meaning.specs.Rows.{is_at, wants, wants_rex, has_modrm, fits_operand}
 use Rattle.x86_meaning.specs.Prefixes.{is_prefix, is_small, allows}
 use Rattle.x86_meaning.specs.Sizes.{width_of, imm_len, fits_imm}
-use Rattle.x86_meaning.specs.Spells.{Encoding, width, imm_size, meaning, endbr64_at}
+use Rattle.x86_meaning.specs.Spells.{Encoding, width, meaning, endbr64_at}
 
 -- a stage follows one that gave a value
 infixl 10 ◌>>=◌
@@ -30,7 +30,8 @@ prefix_len bytes = front_len is_prefix bytes
 -- the low four bits of REX, if it stands here
 unfoldable pub rex_at : List ℕ → Option ℕ × List ℕ
 rex_at [] = (None, [])
-rex_at (b ∷ bytes) = if nat_le 0x40 b && nat_lt b 0x50 then (Some (b - 0x40), bytes) else (None, b ∷ bytes)
+rex_at (b ∷ bytes) =
+    if nat_le 0x40 b && nat_lt b 0x50 then (Some (b - 0x40), bytes) else (None, b ∷ bytes)
 
 -- the opcode behind the escape byte
 unfoldable pub escaped_at : List ℕ → Option (Bool × ℕ × List ℕ)
@@ -49,7 +50,8 @@ digit_at (b ∷ bytes) = b / 8 % 8
 
 -- a row is for this opcode, digit and REX
 abbrev pub matches : Bool → ℕ → ℕ → Option ℕ → Row → Bool
-matches escaped opcode digit rex r = is_at escaped opcode r && (wants r.digit digit && wants_rex r rex)
+matches escaped opcode digit rex r =
+    is_at escaped opcode r && (wants r.digit digit && wants_rex r rex)
 
 unfoldable pub row_at : Bool → ℕ → ℕ → Option ℕ → Option Row
 row_at escaped opcode digit rex = find (matches escaped opcode digit rex) table
@@ -61,7 +63,8 @@ value (b ∷ bytes) = b + 256 * value bytes
 
 -- a number of so many bytes
 unfoldable pub little_at : ℕ → List ℕ → Option (ℕ × List ℕ)
-little_at n bytes = if nat_lt (length bytes) n then None else Some (value (take n bytes), drop n bytes)
+little_at n bytes =
+    if nat_lt (length bytes) n then None else Some (value (take n bytes), drop n bytes)
 
 -- the SIB byte, where there is one
 unfoldable pub sib_at : Bool → List ℕ → Option (Option Sib × List ℕ)
@@ -93,7 +96,12 @@ pub record Front : Type 0 where
 -- the fields are put together
 abbrev pub encoding : Front → Row → ℕ → Option ModRm → ℕ → Encoding
 encoding front row opcode modrm imm = record {
-  prefixes = front.prefixes; rex = front.rex; row = row; opcode = opcode; modrm = modrm; imm = imm;
+  prefixes = front.prefixes;
+  rex = front.rex;
+  row = row;
+  opcode = opcode;
+  modrm = modrm;
+  imm = imm;
 }
 
 -- the fields may stand together, by the tests that the row makes
@@ -101,6 +109,10 @@ abbrev pub passes : Encoding → Bool
 passes e =
     fits_operand e.row.op (is_memory e.modrm)
     && (allows e.row.prefixes (is_memory e.modrm) e.prefixes && fits_imm e.row.imm (width e) e.imm)
+
+-- the encoding and the bytes after it, if it passes
+abbrev pub tested : Encoding → List ℕ → Option (Encoding × List ℕ)
+tested e bytes = if passes e then Some (e, bytes) else None
 
 -- the size of the immediate, by the prefixes, REX and the row
 abbrev pub size_at : Front → Row → ℕ
@@ -113,7 +125,7 @@ fields_at front bytes = do
   row ← row_at o.0 o.1 (digit_at o.2) front.rex
   m ← modrm_for (has_modrm row.form) o.2
   i ← little_at (size_at front row) m.1
-  if passes (encoding front row o.1 m.0 i.0) then Some (encoding front row o.1 m.0 i.0, i.1) else None
+  tested (encoding front row o.1 m.0 i.0) i.1
 
 -- the whole encoding
 unfoldable pub encoding_at : List ℕ → Option (Encoding × List ℕ)

@@ -1,4 +1,4 @@
-ghost use Rattle.std.specs.Prelude.{◌≡◌, ◌≤◌, length, IfSome, List, ℕ, take, ◌++◌};
+ghost use Rattle.std.specs.Prelude.{◌≡◌, ◌≤◌, length, IfSome, None, ◌↔◌, List, ℕ, take, ◌++◌};
 ghost use Rattle.x86_meaning.specs.declared.instr.Instr.{Instr};
 ghost use Rattle.x86_meaning.specs.Spells.{Spells, SpellsFront};
 ghost use Rattle.x86_meaning.specs.Fits.{InForm};
@@ -38,7 +38,15 @@ fn fields_of<'a>(prefixes: &[u8], rex: Option<u8>, bytes: &'a [u8]) -> Option<(F
         && are_allowed(row.prefixes, memory, prefixes)
         && imm_fits(row.imm, width, imm)
     {
-        Some((Fields { row, opcode, modrm, imm }, rest))
+        Some((
+            Fields {
+                row,
+                opcode,
+                modrm,
+                imm,
+            },
+            rest,
+        ))
     } else {
         None
     }
@@ -94,13 +102,18 @@ fn front_of(bytes: &[u8]) -> &[u8]
     ensures value { result.now ≡ take 15 bytes.now }
     ensures short { length result.now ≤ 15 }
 {
-    if bytes.len() > 15 { &bytes[..15] } else { bytes }
+    if bytes.len() > 15 {
+        &bytes[..15]
+    } else {
+        bytes
+    }
 }
 
 /// The instruction at `addr` that a front of the bytes spells.
 pub fn decode(bytes: &[u8], addr: u64) -> Option<Instr>
     ensures found { IfSome result (λ i. (i.addr ≡ addr) × SpellsFront i bytes.now) }
     ensures only { (i : Instr) → i.addr ≡ addr → SpellsFront i bytes.now → result ≡ Some i }
+    ensures none { (result ≡ None) ↔ ((i : Instr) → i.addr ≡ addr → SpellsFront i bytes.now → ⊥) }
     ensures in_form { IfSome result InForm }
 {
     spelled_in_form();

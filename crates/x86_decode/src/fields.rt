@@ -28,7 +28,12 @@ pub fn rex_bits(rex: Option<u8>) -> RexBits
             x: wrxb / 2 % 2,
             b: wrxb % 2,
         },
-        None => RexBits { w: 0, r: 0, x: 0, b: 0 },
+        None => RexBits {
+            w: 0,
+            r: 0,
+            x: 0,
+            b: 0,
+        },
     }
 }
 

@@ -1,4 +1,5 @@
-//! The decoder: the one instruction whose spelling begins the bytes at an address. No call takes memory.
+//! The decoder: the one instruction whose spelling begins the bytes at an address.
+//! No call takes memory.
 #![tactic(auto)]
 
 mod decoding;
@@ -9,3 +10,6 @@ mod reading;
 mod table;
 
 pub use decoding::{decode, one_spelling};
+
+#[cfg(test)]
+mod tests;

@@ -2,7 +2,8 @@ ghost use Rattle.std.specs.Prelude.{◌≡◌, ◌<◌, ◌^◌, ◌*◌, ◌+�
 ghost use Rattle.std.specs.Option.{ForSome};
 ghost use Rattle.x86_meaning.specs.Fields.{base_field, is_baseless, disp_len, FitsSib, FitsModRm};
 ghost use Rattle.x86_meaning.specs.Sizes.{is_length, sign_extend};
-ghost use Rattle.x86_meaning.specs.Operands.{register, base_of, index_of, scale_of, disp_of, place, rm_operand, reg_operand, opcode_operand, imm_number, factor, target, destination, source, condition, instruction, FitsParts};
+ghost use Rattle.x86_meaning.specs.Operands.{register, base_of, index_of, scale_of, disp_of, place, rm_operand, reg_operand, opcode_operand, imm_number, target};
+ghost use Rattle.x86_meaning.specs.Instructions.{factor, destination, source, condition, instruction, FitsParts};
 
 use crate::fields::rex_bits;
 use crate::reading::disp_length;
@@ -27,11 +28,23 @@ fn extended(len: u8, n: u64) -> u64
     if len == 0 {
         n
     } else if len == 1 {
-        if n < 0x80 { n } else { n + 0xffff_ffff_ffff_ff00 }
+        if n < 0x80 {
+            n
+        } else {
+            n + 0xffff_ffff_ffff_ff00
+        }
     } else if len == 2 {
-        if n < 0x8000 { n } else { n + 0xffff_ffff_ffff_0000 }
+        if n < 0x8000 {
+            n
+        } else {
+            n + 0xffff_ffff_ffff_0000
+        }
     } else if len == 4 {
-        if n < 0x8000_0000 { n } else { n + 0xffff_ffff_0000_0000 }
+        if n < 0x8000_0000 {
+            n
+        } else {
+            n + 0xffff_ffff_0000_0000
+        }
     } else {
         n
     }
@@ -77,7 +90,11 @@ fn scale_factor(rex: Option<u8>, sib: Option<Sib>) -> u8
     match sib {
         Some(s) => {
             let number = index_number(rex_bits(rex).x, s);
-            if number == 4 { 1 } else { power_of_two(s.scale) }
+            if number == 4 {
+                1
+            } else {
+                power_of_two(s.scale)
+            }
         }
         None => 1,
     }
@@ -230,12 +247,8 @@ fn source_of(form: Form, parts: &Parts) -> Operand
         Form::RmOne => Operand::Imm(1),
         Form::RmCl => Operand::Reg(1),
         Form::AccOp => opcode_register(parts),
-        Form::OpReg
-        | Form::Rm
-        | Form::Offset
-        | Form::ImmOnly
-        | Form::RmIgnored
-        | Form::Nothing => Operand::None,
+        Form::OpReg | Form::Rm | Form::Offset | Form::ImmOnly | Form::RmIgnored | Form::Nothing =>
+            Operand::None,
     }
 }
 

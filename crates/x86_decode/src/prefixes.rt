@@ -31,7 +31,10 @@ fn is_plain_byte(b: u8) -> bool
 fn is_prefix_byte(b: u8) -> bool
     ensures { result ≡ is_prefix b }
 {
-    matches!(b, 0x26 | 0x2e | 0x36 | 0x3e | 0x64 | 0x66 | 0x67 | 0xf2 | 0xf3)
+    matches!(
+        b,
+        0x26 | 0x2e | 0x36 | 0x3e | 0x64 | 0x66 | 0x67 | 0xf2 | 0xf3
+    )
 }
 
 #[tactic(auto, unfolding(crate::specs::Reading::prefix_len))]
@@ -69,12 +72,28 @@ fn limits_of(rule: PrefixRule) -> Limits
 {
     match rule {
         PrefixRule::Segment => Limits { segment: 1, ..NONE },
-        PrefixRule::SizeSegment => Limits { segment: 1, size: 1, ..NONE },
+        PrefixRule::SizeSegment => Limits {
+            segment: 1,
+            size: 1,
+            ..NONE
+        },
         PrefixRule::Size => Limits { size: 1, ..NONE },
         PrefixRule::Sizes => Limits { size: 15, ..NONE },
-        PrefixRule::Branch => Limits { segment: 1, repne: 1, ..NONE },
-        PrefixRule::Call => Limits { address: 1, repne: 1, ..NONE },
-        PrefixRule::Return => Limits { repne: 1, rep: 1, ..NONE },
+        PrefixRule::Branch => Limits {
+            segment: 1,
+            repne: 1,
+            ..NONE
+        },
+        PrefixRule::Call => Limits {
+            address: 1,
+            repne: 1,
+            ..NONE
+        },
+        PrefixRule::Return => Limits {
+            repne: 1,
+            rep: 1,
+            ..NONE
+        },
     }
 }
 
@@ -82,8 +101,7 @@ fn is_segment_allowed(rule: PrefixRule, memory: bool, prefixes: &[u8]) -> bool
     ensures { result ≡ allows_segment rule memory prefixes.now }
 {
     let segments = count_byte(0x64, prefixes);
-    segments == 0
-        || (memory && segments <= limits_of(rule).segment && count_plain(prefixes) == 0)
+    segments == 0 || (memory && segments <= limits_of(rule).segment && count_plain(prefixes) == 0)
 }
 
 pub fn are_allowed(rule: PrefixRule, memory: bool, prefixes: &[u8]) -> bool

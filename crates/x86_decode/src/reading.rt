@@ -110,7 +110,16 @@ fn modrm_of(bytes: &[u8]) -> Option<(ModRm, &[u8])>
             let (sib, rest) = sib_of(mode != 3 && rm == 4, rest)?;
             let (disp, rest) = little_of(disp_length(mode, rm, sib), rest)?;
             let reg = *b / 8 % 8;
-            Some((ModRm { mode, reg, rm, sib, disp }, rest))
+            Some((
+                ModRm {
+                    mode,
+                    reg,
+                    rm,
+                    sib,
+                    disp,
+                },
+                rest,
+            ))
         }
         [] => None,
     }

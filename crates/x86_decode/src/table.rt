@@ -263,8 +263,8 @@ fn find_row(rows: &[Row], escaped: bool, opcode: u8, digit: u8, rex: Option<u8>)
     None
 }
 
-// For each sixteen opcodes, those of one byte first and then those behind 0F, the place of the first row that may
-// be for one of them.
+// For each sixteen opcodes, those of one byte first and then those behind 0F, the place of the first
+// row that may be for one of them.
 static STARTS: [u8; 32] = [
     0, 12, 24, 36, 48, 48, 50, 55, 57, 90, 95, 97, 99, 114, 134, 137, // of one byte
     155, 157, 158, 158, 158, 160, 160, 160, 160, 162, 164, 165, 169, 170, 170, 170, // behind 0F

@@ -1,5 +1,5 @@
 -- What has a spelling is in form.
-use Rattle.std.proofs.Common.{◌≡◌, ℕ, ◌+◌, ◌^◌, ◌<◌, ◌≤◌, Bool, true, false, ◌&&◌, cond, ltb, leb, List, ◌++◌, length, Option, Some, None, refl, sym, ap, subst, ◌∙◌, arith, inl, inr}
+use Rattle.std.proofs.Common.{◌≡◌, ℕ, ◌+◌, ◌^◌, ◌<◌, ◌≤◌, Bool, true, false, ◌&&◌, cond, ltb, leb, ◌++◌, length, Option, Some, None, refl, sym, subst, arith, inl, inr}
 use Rattle.std.specs.Prelude.{unwrap_or}
 use Rattle.std.proofs.lemmas.Bool.{and_parts, cases_Bool, leb-true, ltb-true}
 use Rattle.std.proofs.lemmas.List.{length-append}
@@ -13,13 +13,13 @@ use Rattle.x86_meaning.specs.declared.encoding.Row.{Row}
 use Rattle.x86_meaning.specs.declared.encoding.ModRm.{ModRm}
 use Rattle.x86_meaning.specs.declared.encoding.Parts.{Parts}
 use Rattle.x86_meaning.specs.Fields.{little, rex_bytes, rex_w, opcode_bytes, modrm_part, is_memory}
-use Rattle.x86_meaning.specs.Rows.{is_at, has_modrm, fits_operand}
+use Rattle.x86_meaning.specs.Rows.{has_modrm}
 use Rattle.x86_meaning.specs.Prefixes.{is_small}
-use Rattle.x86_meaning.specs.Operands.{source}
-use Rattle.x86_meaning.specs.Spells.{Encoding, IsEncoding, IsModRmOf, imm_size, bytes_of, parts, meaning, endbr64_at, IsEncoded, IsSpelled}
-use Rattle.x86_meaning.specs.Kinds.{Kinds, a_place, src_kinds}
+use Rattle.x86_meaning.specs.Instructions.{source}
+use Rattle.x86_meaning.specs.Spells.{Encoding, IsEncoding, IsModRmOf, imm_size, bytes_of, parts, meaning, endbr64_at, IsSpelled}
+use Rattle.x86_meaning.specs.Kinds.{a_place}
 use Rattle.x86_meaning.specs.Fits.{IsOperand, InForm}
-use Rattle.x86_meaning.proofs.OperandLemmas.{form_src, HasModRm, place_is, destination_fits, source_fits, one_place_of}
+use Rattle.x86_meaning.proofs.OperandLemmas.{HasModRm, place_is, destination_fits, source_fits, one_place_of}
 use Rattle.x86_meaning.proofs.TableLemmas.{is_lea, src_of_row, lea_wants, form_of_lea, operand_within, width_within, source_within, source_or, has_one_width, has_target, condition_fits, factor_fits, RowFits, row_of_table}
 
 opcode_is_there : (escaped : Bool) (opcode : ℕ) → 1 ≤ length (opcode_bytes escaped opcode)

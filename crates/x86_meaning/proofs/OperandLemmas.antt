@@ -1,13 +1,12 @@
 -- The operands that an encoding's fields give are of the kinds of its form, and in range.
-use Rattle.std.proofs.Common.{◌≡◌, ◌≢◌, ℕ, ◌+◌, ◌-◌, ◌*◌, ◌%◌, ◌^◌, ◌<◌, ◌≤◌, Bool, true, false, not, ◌&&◌, cond, ltb, eqb, Option, Some, None, refl, sym, subst, arith, inl, inr}
-use Rattle.std.specs.Prelude.{IfSome, MatchOption, IsTrue}
+use Rattle.std.proofs.Common.{◌≡◌, ◌≢◌, ℕ, ◌+◌, ◌-◌, ◌*◌, ◌%◌, ◌^◌, ◌<◌, ◌≤◌, Bool, true, false, ◌&&◌, cond, ltb, eqb, Option, Some, None, refl, sym, subst, arith}
+use Rattle.std.specs.Prelude.{IfSome, IsTrue}
 use Rattle.std.proofs.Math.Nat.{pow-le-pow_right, mod-lt}
 use Rattle.std.proofs.lemmas.Nat.{pow_pos}
-use Rattle.std.proofs.lemmas.Bool.{cond_both, eqb-false, eqb-true, cases_Bool, agree_below_at, not-true}
+use Rattle.std.proofs.lemmas.Bool.{cond_both, eqb-false, agree_below_at, not-true}
 use Rattle.bits_core.specs.declared.width.Width.{Width}
 use Rattle.bits_core.specs.declared.width.Width.TheVariants.{W8, W16, W32, W64}
 use Rattle.bits_core.specs.Width.{bits_of}
-use Rattle.bits_core.specs.LowBits.{cut_of}
 use Rattle.x86_meaning.specs.declared.instr.Operand.{Operand}
 use Rattle.x86_meaning.specs.declared.instr.Operand.TheVariants as operand
 use Rattle.x86_meaning.specs.declared.encoding.Form.{Form}
@@ -15,10 +14,11 @@ use Rattle.x86_meaning.specs.declared.encoding.Form.TheVariants as form
 use Rattle.x86_meaning.specs.declared.encoding.Sib.{Sib}
 use Rattle.x86_meaning.specs.declared.encoding.ModRm.{ModRm}
 use Rattle.x86_meaning.specs.declared.encoding.Parts.{Parts}
-use Rattle.x86_meaning.specs.Fields.{rex_b, rex_x, rex_r, base_field, is_baseless, disp_len, has_sib, FitsSib, FitsModRm, is_memory}
+use Rattle.x86_meaning.specs.Fields.{rex_b, rex_x, rex_r, base_field, is_baseless, disp_len, has_sib, SibStands, FitsModRm, is_memory}
 use Rattle.x86_meaning.specs.Rows.{has_modrm}
 use Rattle.x86_meaning.specs.Sizes.{sign_extend}
-use Rattle.x86_meaning.specs.Operands.{register, index_of, scale_of, is_relative, place, rm_operand, reg_operand, opcode_operand, imm_number, destination, source}
+use Rattle.x86_meaning.specs.Operands.{register, index_of, scale_of, is_relative, place, rm_operand, reg_operand, opcode_operand, imm_number}
+use Rattle.x86_meaning.specs.Instructions.{destination, source}
 use Rattle.x86_meaning.specs.Kinds.{Kinds, no_operand, a_register, an_immediate, a_place, register_or_place}
 use Rattle.x86_meaning.specs.Fits.{is_scale, FitsPlace, IsOperand, is_place}
 
@@ -94,7 +94,7 @@ disp_len_small mode rm sib = grind arith
 
 -- there is a SIB byte where there must be
 abbrev SibFits : ModRm → Option Sib → Type 0
-SibFits m sib = MatchOption sib (has_sib m.mode m.rm ≡ false) (λ s. (has_sib m.mode m.rm ≡ true) × FitsSib s)
+SibFits m sib = SibStands (has_sib m.mode m.rm) sib
 
 base_small : (m : ModRm) → FitsModRm m → base_field m.rm m.sib < 8
 base_small m fits = by_sib m.sib fits.sib

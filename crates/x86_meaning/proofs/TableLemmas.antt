@@ -1,9 +1,9 @@
 -- What each row of the opcode map has: operands and sizes of its operation, by one test over all rows.
-use Rattle.std.proofs.Common.{◌≡◌, ◌≢◌, ℕ, ◌+◌, ◌%◌, ◌^◌, ◌<◌, ◌≤◌, Bool, true, false, not, ◌&&◌, ◌||◌, cond, leb, eqb, Option, Some, None, refl, sym, ap, subst, ◌∙◌, arith, inl, inr}
-use Rattle.std.specs.Prelude.{Contains, IsTrue, is_none}
+use Rattle.std.proofs.Common.{◌≡◌, ℕ, ◌+◌, ◌%◌, ◌^◌, ◌<◌, ◌≤◌, Bool, true, false, not, ◌&&◌, ◌||◌, cond, leb, eqb, Option, Some, None, refl, ◌∙◌, arith, inl, inr}
+use Rattle.std.specs.Prelude.{Contains, is_none}
 use Rattle.std.specs.List.{list_all}
 use Rattle.std.proofs.lemmas.Nat.{pow_pos}
-use Rattle.std.proofs.lemmas.Bool.{and_parts, or_cases, cond_both, eqb-true, leb-true, not-true}
+use Rattle.std.proofs.lemmas.Bool.{and_parts, or_cases, cond_both, eqb-true, leb-true}
 use Rattle.std.proofs.lemmas.List.Sums.{AllPass-from_list_all}
 use Rattle.std.proofs.lemmas.List.Elements.{All-contains}
 use Rattle.bits_core.specs.declared.width.Width.{Width}
@@ -22,9 +22,9 @@ use Rattle.x86_meaning.specs.declared.encoding.Parts.{Parts}
 use Rattle.x86_meaning.specs.Table.{table}
 use Rattle.x86_meaning.specs.Rows.{fits_operand}
 use Rattle.x86_meaning.specs.Sizes.{width_of}
-use Rattle.x86_meaning.specs.Operands.{condition, factor}
+use Rattle.x86_meaning.specs.Instructions.{condition, factor}
 use Rattle.x86_meaning.specs.Kinds.{Kinds, a_place, dst_kinds, src_kinds, Widths, has_width, widths_of}
-use Rattle.x86_meaning.specs.Fits.{FitsPlace, IsOperand, is_narrow, is_extended, IsSourceWidth, FitsCondition, IsCondition, IsFactor}
+use Rattle.x86_meaning.specs.Fits.{IsOperand, is_narrow, is_extended, IsSourceWidth, FitsCondition, IsCondition, IsFactor}
 use Rattle.x86_meaning.proofs.OperandLemmas.{form_dst, form_src, number_fits, HasTarget, HasOneWidth}
 
 -- one answer is given where another is

@@ -1,4 +1,4 @@
--- The fields of an encoding as bytes (Intel SDM volume 2, 2.1: figure 2-1; 2.1.3 to 2.1.5; 2.2.1: REX).
+-- The fields of an encoding as bytes (Intel SDM volume 2, figure 2-1, 2.1.3 to 2.1.5, 2.2.1).
 use Rattle.std.specs.Prelude.{◌≡◌, ℕ, zero, suc, ◌+◌, ◌*◌, ◌/◌, ◌%◌, ◌^◌, ◌<◌, Bool, true, false, not, ◌&&◌, ◌||◌, ◌==◌, if◌then◌else◌, List, [], ◌∷◌, ◌++◌, Option, Some, None, MatchOption}
 use Rattle.x86_meaning.specs.declared.encoding.Sib.{Sib}
 use Rattle.x86_meaning.specs.declared.encoding.ModRm.{ModRm}
@@ -75,12 +75,16 @@ pub record FitsSib (s : Sib) : Type 0 where
   pub index : s.index < 8
   pub base : s.base < 8
 
+-- a SIB byte stands there exactly where it must, and its fields fit their bits
+abbrev pub SibStands : Bool → Option Sib → Type 0
+SibStands stands s = MatchOption s (stands ≡ false) (λ s. (stands ≡ true) × FitsSib s)
+
 -- the fields of ModRM fit their bits, SIB stands where it must, the displacement fits its bytes
 pub record FitsModRm (m : ModRm) : Type 0 where
   pub mode : m.mode < 4
   pub reg : m.reg < 8
   pub rm : m.rm < 8
-  pub sib : MatchOption m.sib (has_sib m.mode m.rm ≡ false) (λ s. (has_sib m.mode m.rm ≡ true) × FitsSib s)
+  pub sib : SibStands (has_sib m.mode m.rm) m.sib
   pub disp : m.disp < 256 ^ disp_len m.mode m.rm m.sib
 
 -- r/m is a place in memory: mod isn't 11

@@ -13,26 +13,35 @@ pub record Kinds : Type 0 where
   pub immediate : Bool
   pub place : Bool
 
+abbrev pub kinds : Bool → Bool → Bool → Bool → Bool → Kinds
+kinds nothing register cl immediate place = record {
+  nothing = nothing;
+  register = register;
+  cl = cl;
+  immediate = immediate;
+  place = place;
+}
+
 abbrev pub no_operand : Kinds
-no_operand = record { nothing = true; register = false; cl = false; immediate = false; place = false }
+no_operand = kinds true false false false false
 
 abbrev pub a_register : Kinds
-a_register = record { nothing = false; register = true; cl = false; immediate = false; place = false }
+a_register = kinds false true false false false
 
 abbrev pub an_immediate : Kinds
-an_immediate = record { nothing = false; register = false; cl = false; immediate = true; place = false }
+an_immediate = kinds false false false true false
 
 abbrev pub a_place : Kinds
-a_place = record { nothing = false; register = false; cl = false; immediate = false; place = true }
+a_place = kinds false false false false true
 
 abbrev pub register_or_place : Kinds
-register_or_place = record { nothing = false; register = true; cl = false; immediate = false; place = true }
+register_or_place = kinds false true false false true
 
 abbrev pub any_operand : Kinds
-any_operand = record { nothing = false; register = true; cl = false; immediate = true; place = true }
+any_operand = kinds false true false true true
 
 abbrev pub a_count : Kinds
-a_count = record { nothing = false; register = false; cl = true; immediate = true; place = false }
+a_count = kinds false false true true false
 
 -- what the first operand may be
 abbrev pub dst_kinds : Op → Kinds
@@ -92,20 +101,23 @@ pub record Widths : Type 0 where
   pub double : Bool
   pub quad : Bool
 
+abbrev pub widths : Bool → Bool → Bool → Bool → Widths
+widths byte word double quad = record { byte = byte; word = word; double = double; quad = quad }
+
 abbrev pub byte_only : Widths
-byte_only = record { byte = true; word = false; double = false; quad = false }
+byte_only = widths true false false false
 
 abbrev pub quad_only : Widths
-quad_only = record { byte = false; word = false; double = false; quad = true }
+quad_only = widths false false false true
 
 abbrev pub double_or_quad : Widths
-double_or_quad = record { byte = false; word = false; double = true; quad = true }
+double_or_quad = widths false false true true
 
 abbrev pub not_byte : Widths
-not_byte = record { byte = false; word = true; double = true; quad = true }
+not_byte = widths false true true true
 
 abbrev pub every_width : Widths
-every_width = record { byte = true; word = true; double = true; quad = true }
+every_width = widths true true true true
 
 abbrev pub has_width : Widths → Width → Bool
 has_width ws W8 = ws.byte

@@ -37,7 +37,8 @@ limits rule.Return = record { segment = 0; size = 0; address = 0; repne = 1; rep
 abbrev pub allows_segment : PrefixRule → Bool → List ℕ → Bool
 allows_segment r memory prefixes =
     (count 0x64 prefixes == 0)
-    || (memory && (nat_le (count 0x64 prefixes) (limits r).segment && (count_by is_plain prefixes == 0)))
+    || (memory
+    && (nat_le (count 0x64 prefixes) (limits r).segment && (count_by is_plain prefixes == 0)))
 
 -- the prefixes may stand before an opcode of the rule, with or without a memory operand
 abbrev pub allows : PrefixRule → Bool → List ℕ → Bool

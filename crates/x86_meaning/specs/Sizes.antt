@@ -1,4 +1,4 @@
--- Sizes of operands and immediates, and numbers extended by their sign (Intel SDM volume 2, 2.2.1 and A.2.2).
+-- Sizes of operands and immediates, numbers extended by their sign (Intel SDM volume 2, 2.2.1, A.2.2).
 use Rattle.std.specs.Prelude.{ℕ, ◌+◌, ◌-◌, ◌*◌, ◌%◌, ◌^◌, Bool, true, not, ◌||◌, ◌==◌, nat_lt, if◌then◌else◌, unwrap_or}
 use Rattle.bits_core.specs.declared.width.Width.{Width}
 use Rattle.bits_core.specs.declared.width.Width.TheVariants.{W8, W16, W32, W64}

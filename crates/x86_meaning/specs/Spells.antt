@@ -1,4 +1,4 @@
--- The spellings of an instruction: the fields of an encoding, which go together, their bytes and their meaning.
+-- The spellings of an instruction: the fields of an encoding, their bytes and their meaning.
 use Rattle.std.specs.Prelude.{◌≡◌, ℕ, ◌+◌, ◌%◌, ◌^◌, ◌<◌, ◌≤◌, true, false, nat_lt, IsTrue, List, [], ◌∷◌, ◌++◌, length, Contains, Option, Some, None, IfSome, ◌⊎◌}
 use Rattle.std.specs.List.{AllByRecursion}
 use Rattle.bits_core.specs.declared.width.Width.{Width}
@@ -14,7 +14,7 @@ use Rattle.x86_meaning.specs.Table.{table}
 use Rattle.x86_meaning.specs.Rows.{is_at, wants, wants_rex, has_modrm, fits_operand}
 use Rattle.x86_meaning.specs.Prefixes.{is_prefix, count, is_small, allows}
 use Rattle.x86_meaning.specs.Sizes.{width_of, imm_len, fits_imm, source_width}
-use Rattle.x86_meaning.specs.Operands.{instruction}
+use Rattle.x86_meaning.specs.Instructions.{instruction}
 
 -- the fields of an encoding, in their order: REX by its low four bits
 pub record Encoding : Type 0 where

@@ -1,5 +1,5 @@
 -- The starts are those that were tested over all blocks.
-use Rattle.std.proofs.Common.{◌∙◌, arith}
+use Rattle.std.proofs.Common.{arith}
 use Rattle.x86_decode.specs.Reading.{row_at}
 use Rattle.x86_decode.proofs.RowLemmas.{start_within, found_behind}
 use Rattle.x86_decode.proofs.table.start_of.Goals as goal
