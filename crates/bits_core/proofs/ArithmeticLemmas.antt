@@ -1,5 +1,5 @@
 -- Sums, differences, shifts and products as arithmetic modulo 2^width, and the integers that numbers stand for.
-use Rattle.std.proofs.Common.{◌≡◌, ℕ, zero, suc, ◌+◌, ◌*◌, ◌-◌, ◌/◌, ◌%◌, ◌^◌, ◌<◌, ◌≤◌, true, false, Bool, not, nat_lt, nat_le, if◌then◌else◌, ℤ, pos, negsuc, neg_ℤ, ◌+ℤ◌, ◌-ℤ◌, ◌*ℤ◌, refl, sym, ap, subst, ◌∙◌, inl, inr, ◌⊎◌, arith}
+use Rattle.std.proofs.Common.{◌≡◌, ℕ, zero, suc, ◌+◌, ◌*◌, ◌-◌, ◌/◌, ◌%◌, ◌^◌, ◌<◌, ◌≤◌, true, false, Bool, not, nat_lt, nat_le, if◌then◌else◌, ℤ, pos, negsuc, neg_ℤ, ◌+ℤ◌, ◌-ℤ◌, ◌*ℤ◌, sym, ap, ◌∙◌, inl, inr, arith}
 use Rattle.std.specs.Prelude.{◌&&◌, int_lt, int_le}
 use Rattle.std.specs.Int.{from_bool, int_shr}
 use Rattle.std.proofs.lemmas.Bool.{cases_lt}
@@ -12,7 +12,7 @@ use Rattle.bits_core.specs.declared.width.Width.{Width}
 use Rattle.bits_core.specs.declared.width.Width.TheVariants.{W8, W16, W32, W64}
 use Rattle.bits_core.specs.declared.operations.Shift.TheVariants.{Shl, Shr, Sar}
 use Rattle.bits_core.specs.Width.{bits_of}
-use Rattle.bits_core.specs.LowBits.{cut_of, extended, sext_of}
+use Rattle.bits_core.specs.LowBits.{cut_of, sext_of}
 use Rattle.bits_core.specs.Integers.{end_of, integer_of, residue_of}
 use Rattle.bits_core.specs.Arithmetic.{sum_of, difference_of}
 use Rattle.bits_core.specs.Shifts.{counts_of, shifted_by, shift_of}
@@ -99,8 +99,8 @@ back_below : (w : Width) (end p : ℕ) → p < 2 ^ bits_of w → residue_of w (i
 back_below w end p h =
     elim (nat_le end p) as (λ b. residue_of w (if b then pos p -ℤ pos (2 ^ bits_of w) else pos p) ≡ p) [
       | true ↦ let e : pos p -ℤ pos (2 ^ bits_of w) ≡ negsuc (2 ^ bits_of w - p - 1) = omega (arith, ints) in
-               let f : (2 ^ bits_of w - p - 1) % 2 ^ bits_of w ≡ 2 ^ bits_of w - p - 1 = mod-eq_of_lt (omega arith) in
-               ap (residue_of w) e ∙ ap (λ n. 2 ^ bits_of w - 1 - n) f ∙ (let g : 2 ^ bits_of w - 1 - (2 ^ bits_of w - p - 1) ≡ p = omega arith in g)
+          let f : (2 ^ bits_of w - p - 1) % 2 ^ bits_of w ≡ 2 ^ bits_of w - p - 1 = mod-eq_of_lt (omega arith) in
+          ap (residue_of w) e ∙ ap (λ n. 2 ^ bits_of w - 1 - n) f ∙ (let g : 2 ^ bits_of w - 1 - (2 ^ bits_of w - p - 1) ≡ p = omega arith in g)
       | false ↦ mod-eq_of_lt h
     ]
 
@@ -193,7 +193,7 @@ shift_laws = record {
   left_gone = left_gone_at;
   right_gone = right_gone_at;
   extended = extended_shift;
-  turned = turned_by_rest
+  turned = turned_by_rest;
 }
 
 -- ---- products
@@ -235,8 +235,8 @@ mixed_product : (w : Width) (a b : ℕ) → residue_of w (neg_ℤ (pos (a * suc 
 mixed_product w a b =
     sym (mod-eq_of_lt (residue_below w (neg_ℤ (pos (a * suc b)))))
     ∙ same_inverse (residue_of w (neg_ℤ (pos (a * suc b)))) (a * residue_of w (negsuc b)) (a * suc b) (2 ^ bits_of w)
-      (negated_residue w (a * suc b))
-      (zero_product a (residue_of w (negsuc b)) (suc b) (2 ^ bits_of w) (negative_residue b (2 ^ bits_of w) (pow_pos (bits_of w))))
+    (negated_residue w (a * suc b))
+    (zero_product a (residue_of w (negsuc b)) (suc b) (2 ^ bits_of w) (negative_residue b (2 ^ bits_of w) (pow_pos (bits_of w))))
 
 turned_product : (a b c m : ℕ) → a * b % m ≡ c → b * a % m ≡ c
 turned_product a b c m e = let f : b * a ≡ a * b = omega arith in ap (λ n. n % m) f ∙ e

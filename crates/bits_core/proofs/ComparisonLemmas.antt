@@ -1,5 +1,5 @@
 -- Comparisons: what the flags of a subtraction say of the two numbers, unsigned and signed.
-use Rattle.std.proofs.Common.{◌≡◌, ℕ, suc, ◌+◌, ◌*◌, ◌-◌, ◌/◌, ◌%◌, ◌^◌, ◌<◌, ◌≤◌, true, false, Bool, not, nat_lt, nat_le, if◌then◌else◌, ℤ, pos, negsuc, neg_ℤ, ◌+ℤ◌, ◌-ℤ◌, inl, inr, ◌⊎◌, subst, refl, sym, ap, ◌∙◌, arith}
+use Rattle.std.proofs.Common.{◌≡◌, ℕ, ◌+◌, ◌-◌, ◌%◌, ◌^◌, ◌<◌, ◌≤◌, true, false, not, nat_lt, nat_le, if◌then◌else◌, ℤ, pos, negsuc, neg_ℤ, ◌+ℤ◌, ◌-ℤ◌, inl, inr, ◌⊎◌, subst, refl, sym, ap, ◌∙◌, arith}
 use Rattle.std.specs.Prelude.{◌==◌, ◌&&◌, ◌||◌, int_lt, int_le}
 use Rattle.std.proofs.lemmas.Bool.Decides.{nat_tests}
 use Rattle.std.proofs.lemmas.Bool.{cases_lt}
@@ -10,8 +10,7 @@ use Rattle.bits_core.specs.declared.width.Width.TheVariants.{W8, W16, W32, W64}
 use Rattle.bits_core.specs.Width.{bits_of}
 use Rattle.bits_core.specs.LowBits.{cut_of}
 use Rattle.bits_core.specs.Integers.{integer_of, residue_of}
-use Rattle.bits_core.specs.Arithmetic.{difference_of}
-use Rattle.bits_core.specs.Condition.{differ, condition_of}
+use Rattle.bits_core.specs.Condition.{differ}
 use Rattle.bits_core.specs.Laws.{compared, ComparisonLaws}
 use Rattle.bits_core.proofs.LowBitsLemmas.{cut_below}
 
@@ -181,5 +180,5 @@ comparison = record {
   l = compared_less;
   ge = λ w x y. ap not (compared_less w x y) ∙ not_less (integer_of w true x) (integer_of w true y);
   le = compared_most;
-  g = λ w x y. ap not (compared_most w x y) ∙ not_most (integer_of w true x) (integer_of w true y)
+  g = λ w x y. ap not (compared_most w x y) ∙ not_most (integer_of w true x) (integer_of w true y);
 }

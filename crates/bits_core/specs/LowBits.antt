@@ -1,5 +1,6 @@
 -- What the low bits of a number are, alone and extended by their sign (Intel SDM volume 2, MOVSX).
-use Rattle.std.specs.Prelude.{◌≡◌, ℕ, ◌+◌, ◌-◌, ◌*◌, ◌%◌, ◌^◌, ◌<◌, ◌≤◌, nat_lt, if◌then◌else◌}
+use Rattle.std.specs.Prelude.{◌≡◌, ℕ, ◌+◌, ◌-◌, ◌*◌, ◌%◌, ◌^◌, ◌<◌, ◌≤◌}
+use Rattle.std.specs.Prelude.{nat_lt, if◌then◌else◌}
 use Rattle.bits_core.specs.declared.width.Width.{Width}
 use Rattle.bits_core.specs.declared.width.Width.TheVariants.{W64}
 use Rattle.bits_core.specs.Width.{bits_of}
@@ -24,7 +25,8 @@ pub record CutLaws : Type 0 where
   -- a number that fits stays, and a second cut changes nothing, nor does one before a narrower one
   pub same : (w : Width) (x : ℕ) → x < 2 ^ bits_of w → cut_of w x ≡ x
   pub again : (w : Width) (x : ℕ) → cut_of w (cut_of w x) ≡ cut_of w x
-  pub narrower : (v w : Width) (x : ℕ) → bits_of v ≤ bits_of w → cut_of v (cut_of w x) ≡ cut_of v x
+  pub narrower : (v w : Width) (x : ℕ) → bits_of v ≤ bits_of w →
+      cut_of v (cut_of w x) ≡ cut_of v x
   -- the low bits of a sum or a product are those of the operands' low bits
   pub sums : (w : Width) (x y : ℕ) → cut_of w (cut_of w x + cut_of w y) ≡ cut_of w (x + y)
   pub products : (w : Width) (x y : ℕ) → cut_of w (cut_of w x * cut_of w y) ≡ cut_of w (x * y)

@@ -1,6 +1,7 @@
 -- What mul and imul make of two numbers, and div and idiv of a number of twice the width
 -- (Intel SDM volume 2, MUL, IMUL, DIV, IDIV).
-use Rattle.std.specs.Prelude.{ℕ, ◌^◌, ◌==◌, Bool, false, Option, Some, None, if◌then◌else◌, ℤ, pos, ◌+ℤ◌, ◌*ℤ◌, int_div, int_rem}
+use Rattle.std.specs.Prelude.{ℕ, ◌^◌, ◌==◌, Bool, false, Option, Some, None, if◌then◌else◌}
+use Rattle.std.specs.Prelude.{ℤ, pos, ◌+ℤ◌, ◌*ℤ◌, int_div, int_rem}
 use Rattle.std.specs.Int.{int_shr}
 use Rattle.bits_core.specs.declared.width.Width.{Width}
 use Rattle.bits_core.specs.Width.{bits_of}
@@ -17,7 +18,8 @@ product_of w signed a b = halves_of w (integer_of w signed a *ℤ integer_of w s
 
 -- the integer whose halves are given
 abbrev pub joined_of : Width → Bool → ℕ → ℕ → ℤ
-joined_of w signed high low = integer_of w signed high *ℤ pos (2 ^ bits_of w) +ℤ integer_of w false low
+joined_of w signed high low =
+    integer_of w signed high *ℤ pos (2 ^ bits_of w) +ℤ integer_of w false low
 
 -- a quotient rounded toward zero, with the remainder, where the quotient fits the width
 abbrev pub fitting : Width → Bool → ℤ → ℤ → Option (ℕ × ℕ)
@@ -29,4 +31,6 @@ fitting w signed dividend divisor =
 -- the quotient and the remainder; none where the divisor is 0 or the quotient does not fit
 abbrev pub quotient_of : Width → Bool → ℕ → ℕ → ℕ → Option (ℕ × ℕ)
 quotient_of w signed high low by =
-    if cut_of w by == 0 then None else fitting w signed (joined_of w signed high low) (integer_of w signed by)
+    if cut_of w by == 0
+    then None
+    else fitting w signed (joined_of w signed high low) (integer_of w signed by)

@@ -1,5 +1,5 @@
 ghost use Rattle.std.specs.Prelude.{◌≡◌};
-ghost use Rattle.bits_core.specs.Arithmetic.{alu_of, difference_of, exactly, flags_of, logical_of, sum_of};
+ghost use Rattle.bits_core.specs.Arithmetic.{alu_of, difference_of, exact_difference_of, exact_sum_of, exactly, flags_of, logical_of, sum_of};
 
 use crate::flags::Flags;
 use crate::integers::{integer, is_held, residue};
@@ -26,19 +26,33 @@ pub fn alu(op: Alu, w: Width, a: u64, b: u64, carry: bool) -> (u64, Flags)
 fn sum(w: Width, a: u64, b: u64, carry: bool) -> (u64, Flags)
     ensures { result ≡ sum_of w a b carry }
 {
-    let carry_in = i128::from(u8::from(carry));
-    let unsigned = integer(w, false, a) + integer(w, false, b) + carry_in;
-    let signed = integer(w, true, a) + integer(w, true, b) + carry_in;
-    with_flags(w, unsigned, signed)
+    with_flags(
+        w,
+        exact_sum(w, false, a, b, carry),
+        exact_sum(w, true, a, b, carry),
+    )
 }
 
 fn difference(w: Width, a: u64, b: u64, borrow: bool) -> (u64, Flags)
     ensures { result ≡ difference_of w a b borrow }
 {
-    let borrow_in = i128::from(u8::from(borrow));
-    let unsigned = integer(w, false, a) - integer(w, false, b) - borrow_in;
-    let signed = integer(w, true, a) - integer(w, true, b) - borrow_in;
-    with_flags(w, unsigned, signed)
+    with_flags(
+        w,
+        exact_difference(w, false, a, b, borrow),
+        exact_difference(w, true, a, b, borrow),
+    )
+}
+
+fn exact_sum(w: Width, signed: bool, a: u64, b: u64, carry: bool) -> i128
+    ensures { result ≡ exact_sum_of w signed a b carry }
+{
+    integer(w, signed, a) + integer(w, signed, b) + i128::from(u8::from(carry))
+}
+
+fn exact_difference(w: Width, signed: bool, a: u64, b: u64, borrow: bool) -> i128
+    ensures { result ≡ exact_difference_of w signed a b borrow }
+{
+    integer(w, signed, a) - integer(w, signed, b) - i128::from(u8::from(borrow))
 }
 
 fn with_flags(w: Width, unsigned: i128, signed: i128) -> (u64, Flags)

@@ -7,11 +7,9 @@ pub fn arithmetic_laws()
     ensures sums { SumLaws }
     ensures shifts { ShiftLaws }
     ensures products { ProductLaws }
-{
-}
+{}
 
 /// The flags of a subtraction decide each unsigned and signed comparison, as `cond` reads them; the call does nothing.
 pub fn comparison_laws()
     ensures { ComparisonLaws }
-{
-}
+{}

@@ -66,10 +66,8 @@ fn divided_signed(w: Width, high: u64, low: u64, by: u64) -> Option<(u64, u64)>
     if !is_held(w, true, quotient) {
         return None;
     }
-    Some((
-        residue(w, quotient),
-        residue(w, dividend.wrapping_rem(divisor)),
-    ))
+    let remainder = dividend.wrapping_rem(divisor);
+    Some((residue(w, quotient), residue(w, remainder)))
 }
 
 // The signed number whose halves are given.

@@ -1,5 +1,5 @@
 -- A number is turned right as it is turned left by the rest of the width.
-use Rattle.std.proofs.Common.{◌≡◌, ◌%◌, ◌≤◌, arith}
+use Rattle.std.proofs.Common.{◌%◌, ◌≤◌, arith}
 use Rattle.bits_core.specs.Width.{bits_of}
 use Rattle.bits_core.specs.LowBits.{cut_of}
 use Rattle.bits_core.proofs.ShiftLemmas.{turned_by_rest}
