@@ -4,3 +4,6 @@ pub mod FormLemmas
 pub mod MemoryLemmas
 pub mod StepLemmas
 pub mod TextLemmas
+pub mod StateLemmas
+pub mod StoreLemmas
+pub mod StepLawLemmas

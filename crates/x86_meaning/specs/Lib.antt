@@ -15,5 +15,7 @@ pub mod Access
 pub mod Steps
 pub mod Moves
 pub mod Next
+pub mod Named
+pub mod StepLaws
 pub mod Names
 pub mod InstructionText

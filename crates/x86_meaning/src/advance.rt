@@ -1,4 +1,4 @@
-ghost use Rattle.std.specs.Prelude.{◌≡◌, ◌≢◌, if◌then◌else◌, OnErr, OnOk};
+ghost use Rattle.std.specs.Prelude.{◌≡◌, ◌≢◌, ◌↔◌, if◌then◌else◌, OnErr, OnOk};
 ghost use Rattle.x86_meaning.specs.Fits.{FitsCondition, InForm};
 ghost use Rattle.x86_meaning.specs.State.{State, reg, state_of, with_rip};
 ghost use Rattle.x86_meaning.specs.Access.{read, NamesInstr};
@@ -28,6 +28,9 @@ impl Machine {
         ensures moved { result ≡ Outcome.Moved → next (state_of self.old) i.now choice ≡ Some (state_of self.new) }
         ensures unchanged { result ≢ Outcome.Moved → state_of self.new ≡ state_of self.old }
         ensures outcome { result ≢ Outcome.NoMemory → result ≡ outcome_of (state_of self.old) i.now }
+        ensures divide_fault { (result ≡ Outcome.DivideFault) ↔ (outcome_of (state_of self.old) i.now ≡ Outcome.DivideFault) }
+        ensures stopped { (result ≡ Outcome.Stopped) ↔ (outcome_of (state_of self.old) i.now ≡ Outcome.Stopped) }
+        ensures outside { (result ≡ Outcome.Outside) ↔ (outcome_of (state_of self.old) i.now ≡ Outcome.Outside) }
     {
         match i.op {
             Op::Div => self.divide_and_pass(false, i, choice),

@@ -11,11 +11,13 @@ mod memory;
 mod moves;
 mod names;
 mod steps;
+#[cfg(test)]
+mod tests;
 mod text;
 
 pub use encoding::{Form, ImmSize, ModRm, Parts, PrefixRule, Row, Sib, Size};
 pub use instr::{Instr, Op, Operand, Place};
-pub use laws::spelled_in_form;
+pub use laws::{spelled_in_form, step_laws};
 pub use machine::{Machine, Outcome};
 pub use memory::NoMemory;
 pub use text::write_instr;
