@@ -5,9 +5,8 @@
 mod replay;
 
 use replay::is_as_recorded;
-use std::io;
 use std::io::Read;
-use std::str;
+use std::{io, str};
 
 fn main(rt: HostRuntime) -> io::Result<()> {
     let mut bytes = Vec::new(rt.alloc());

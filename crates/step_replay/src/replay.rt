@@ -5,6 +5,7 @@ use x86_decode::decode;
 use x86_meaning::{Machine, NoMemory, Outcome};
 
 const CELL: u64 = 0x1000_0000;
+
 const CODE: u64 = 0x2000_0000;
 // The length of what `setting` gives.
 const SETTING: u64 = 33;

@@ -7,3 +7,5 @@ pub mod TextLemmas
 pub mod StateLemmas
 pub mod StoreLemmas
 pub mod StepLawLemmas
+pub mod FrameLemmas
+pub mod ByteFrameLemmas

@@ -86,7 +86,7 @@ pub reg_below : (s : State) (r : ℕ) → IsState s → reg s r < 2 ^ 64
 unfolding reg
 reg_below s r h = h.regs r
 
-address_below : (s : State) (p : Place) → address s p < 2 ^ 64
+pub address_below : (s : State) (p : Place) → address s p < 2 ^ 64
 unfolding address
 address_below s p = omega arith
 

@@ -17,5 +17,6 @@ pub mod Moves
 pub mod Next
 pub mod Named
 pub mod StepLaws
+pub mod Frames
 pub mod Names
 pub mod InstructionText

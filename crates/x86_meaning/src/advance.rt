@@ -135,7 +135,12 @@ impl Machine {
             Op::Dec => self.count(Alu::Sub, i),
             Op::Mul => self.multiply(false, i, choice),
             Op::Imul1 => self.multiply(true, i, choice),
-            Op::Imul2 => self.scale(self.read(i.width, i.dst), self.read(i.width, i.src), i, choice),
+            Op::Imul2 => self.scale(
+                self.read(i.width, i.dst),
+                self.read(i.width, i.src),
+                i,
+                choice,
+            ),
             Op::Imul3 => self.scale(self.read(i.width, i.src), i.extra, i, choice),
             Op::Rol => self.shift(Shift::Rol, i, choice),
             Op::Ror => self.shift(Shift::Ror, i, choice),

@@ -12,8 +12,11 @@ use bits_core::{Alu, Flags, Width, alu, cut, div_wide, mul_wide};
 
 /// The registers that some instructions take without naming them.
 pub const RAX: u8 = 0;
+
 pub const RDX: u8 = 2;
+
 pub const RSP: u8 = 4;
+
 pub const RBP: u8 = 5;
 
 // A bit of the choice.
@@ -42,7 +45,11 @@ pub fn free(choice: u8) -> Flags
 pub fn signs_of(w: Width, low: u64) -> u64
     ensures { result ≡ signs_of w low }
 {
-    if low < 1 << (w.bits() - 1) { 0 } else { cut(w, u64::MAX) }
+    if low < 1 << (w.bits() - 1) {
+        0
+    } else {
+        cut(w, u64::MAX)
+    }
 }
 
 fn upper_of(w: Width, signed: bool, low: u64) -> u64
@@ -110,7 +117,13 @@ impl Machine {
         ensures ok { OnOk result (state_of self.new ≡ inverted (state_of self.old) i.now) }
         ensures err { OnErr result (state_of self.new ≡ state_of self.old) }
     {
-        let (value, _) = alu(Alu::Sub, i.width, u64::MAX, self.read(i.width, i.dst), false);
+        let (value, _) = alu(
+            Alu::Sub,
+            i.width,
+            u64::MAX,
+            self.read(i.width, i.dst),
+            false,
+        );
         self.write(i.width, i.dst, value)
     }
 
@@ -148,7 +161,12 @@ impl Machine {
         ensures err { OnErr result (state_of self.new ≡ state_of self.old) }
     {
         let factor = self.read(i.width, i.dst);
-        let product = mul_wide(i.width, signed, self.read(i.width, Operand::Reg(RAX)), factor);
+        let product = mul_wide(
+            i.width,
+            signed,
+            self.read(i.width, Operand::Reg(RAX)),
+            factor,
+        );
         self.set_halves(i.width, product.0, product.1);
         self.set_flags(product_flags(i.width, signed, product, choice));
         Ok(())

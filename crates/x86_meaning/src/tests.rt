@@ -1,8 +1,8 @@
 ghost use Rattle.std.specs.Prelude.{◌≡◌};
-ghost use Rattle.x86_meaning.specs.Fits.{InForm};
 
 use crate::{Instr, Machine, Op, Operand, Outcome, Place, write_instr};
 use bits_core::Width;
+use std::alloc::Global;
 use std::process::Abort;
 use std::test::Fail;
 
@@ -53,10 +53,8 @@ fn nop_moves_and_a_division_by_0_is_a_fault(rt: HostRuntime) {
     assert_eq!(rt; machine.rip(), 0x40_007a);
 }
 
-fn expect_text(rt: &HostRuntime, i: &Instr, text: &str) -> Result<(), Fail>
-    requires { InForm i.now }
-{
-    let written = write_instr(rt.alloc(), i).ok().ok_or("no memory")?;
+fn expect_text(rt: &impl Abort, alloc: Global, i: &Instr, text: &str) -> Result<(), Fail> {
+    let written = write_instr(alloc, i).ok().ok_or("no memory")?;
     assert_eq!(rt; written.as_slice(), text.as_bytes());
     Ok(())
 }
@@ -65,40 +63,40 @@ fn expect_text(rt: &HostRuntime, i: &Instr, text: &str) -> Result<(), Fail>
 #[test]
 fn texts_have_the_manual_s_names(rt: HostRuntime) -> Result<(), Fail> {
     let call = instr(Op::Call, Width::W64, Operand::Imm(0x40_0081), Operand::None);
-    expect_text(&rt, &call, "call 0x400081")?;
+    expect_text(&rt, rt.alloc(), &call, "call 0x400081")?;
     let ret = instr(Op::Ret, Width::W64, Operand::None, Operand::None);
-    expect_text(&rt, &ret, "ret")?;
+    expect_text(&rt, rt.alloc(), &ret, "ret")?;
     let nop = instr(Op::Nop, Width::W64, Operand::None, Operand::None);
-    expect_text(&rt, &nop, "nop")?;
+    expect_text(&rt, rt.alloc(), &nop, "nop")?;
     let fs = Place {
         fs: true,
         ..place(None, None, 1, 40)
     };
     let mov = instr(Op::Mov, Width::W64, Operand::Reg(0), Operand::Mem(fs));
-    expect_text(&rt, &mov, "mov rax, qword [fs:40]")
+    expect_text(&rt, rt.alloc(), &mov, "mov rax, qword [fs:40]")
 }
 
 #[test]
 fn texts_of_places_and_numbers(rt: HostRuntime) -> Result<(), Fail> {
     let at = place(Some(0), Some(1), 1, 0);
     let add = instr(Op::Add, Width::W32, Operand::Mem(at), Operand::Reg(9));
-    expect_text(&rt, &add, "add dword [rax+rcx*1], r9d")?;
+    expect_text(&rt, rt.alloc(), &add, "add dword [rax+rcx*1], r9d")?;
     let at = place(Some(5), None, 1, 0xffff_ffff_ffff_fff8);
     let lea = instr(Op::Lea, Width::W64, Operand::Reg(7), Operand::Mem(at));
-    expect_text(&rt, &lea, "lea rdi, [rbp-8]")?;
+    expect_text(&rt, rt.alloc(), &lea, "lea rdi, [rbp-8]")?;
     let at = place(None, Some(2), 8, 0x2710);
     let xor = instr(Op::Xor, Width::W8, Operand::Mem(at), Operand::High(3));
-    expect_text(&rt, &xor, "xor byte [rdx*8+0x2710], bh")
+    expect_text(&rt, rt.alloc(), &xor, "xor byte [rdx*8+0x2710], bh")
 }
 
 #[test]
 fn texts_of_counts_and_conditions(rt: HostRuntime) -> Result<(), Fail> {
     let shl = instr(Op::Shl, Width::W8, Operand::Reg(0), Operand::Imm(200));
-    expect_text(&rt, &shl, "shl al, -56")?;
+    expect_text(&rt, rt.alloc(), &shl, "shl al, -56")?;
     let sar = instr(Op::Sar, Width::W32, Operand::Reg(6), Operand::Reg(1));
-    expect_text(&rt, &sar, "sar esi, cl")?;
+    expect_text(&rt, rt.alloc(), &sar, "sar esi, cl")?;
     let jmp = instr(Op::Jmp, Width::W64, Operand::Imm(0), Operand::None);
-    expect_text(&rt, &jmp, "jmp 0x0")?;
+    expect_text(&rt, rt.alloc(), &jmp, "jmp 0x0")?;
     let cdqe = instr(Op::Widen, Width::W64, Operand::None, Operand::None);
-    expect_text(&rt, &cdqe, "cdqe")
+    expect_text(&rt, rt.alloc(), &cdqe, "cdqe")
 }

@@ -1,5 +1,4 @@
 ghost use Rattle.std.specs.Prelude.{◌≡◌, ◌++◌, ◌||◌, is_some, IfOk, OnOk, codes, decimal};
-ghost use Rattle.x86_meaning.specs.Fits.{InForm};
 ghost use Rattle.x86_meaning.specs.Names.{register_name};
 ghost use Rattle.x86_meaning.specs.InstructionText.{address_text, after, base_text, count_text, disp_text, first_text, hex_text, index_text, is_small_negative, number_text, operand_text, place_text, plus_text, second_text, segment_text, size_text, target_text, text_of, third_text};
 
@@ -14,7 +13,6 @@ use std::alloc::Global;
 /// is hexadecimal; a place in memory has its size before its brackets, but in `lea`. `NoMemory` where there is no
 /// memory for the text.
 pub fn write_instr(alloc: Global, i: &Instr) -> Result<Vec<u8>, NoMemory>
-    requires { InForm i.now }
     ensures { IfOk result (λ text. text.items ≡ text_of i.now) }
 {
     let mut out = Vec::new(alloc);
@@ -56,7 +54,11 @@ fn put_number(alloc: Global, out: &mut Vec<u8>, n: u64) -> Result<(), NoMemory>
 fn put_plus(out: &mut Vec<u8>, follows: bool, n: u64) -> Result<(), NoMemory>
     ensures { OnOk result (out.new.items ≡ out.old.items ++ plus_text follows n) }
 {
-    if follows && !is_small_negative(n) { put(out, b"+") } else { Ok(()) }
+    if follows && !is_small_negative(n) {
+        put(out, b"+")
+    } else {
+        Ok(())
+    }
 }
 
 fn put_disp(alloc: Global, out: &mut Vec<u8>, follows: bool, n: u64) -> Result<(), NoMemory>
