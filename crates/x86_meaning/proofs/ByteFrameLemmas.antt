@@ -1,8 +1,8 @@
 -- A step leaves the bytes that it does not write.
-use Rattle.std.proofs.Common.{◌≡◌, ◌≢◌, ℕ, ◌%◌, ◌^◌, Bool, true, false, cond, Option, Some, None, refl, ◌∙◌, subst, ap, arith, ◌<◌, ◌+◌, ◌-◌}
+use Rattle.std.proofs.Common.{◌≡◌, ℕ, ◌^◌, Bool, true, false, cond, Option, Some, None, refl, ◌∙◌, subst, arith, ◌<◌}
 use Rattle.bits_core.specs.declared.flags.Flags.{Flags}
 use Rattle.bits_core.specs.declared.width.Width.{Width}
-use Rattle.bits_core.specs.declared.width.Width.TheVariants.{W8, W64}
+use Rattle.bits_core.specs.declared.width.Width.TheVariants.{W64}
 use Rattle.bits_core.specs.Width.{bytes_of}
 use Rattle.x86_meaning.specs.declared.instr.Op.{Op}
 use Rattle.x86_meaning.specs.declared.instr.Op.TheVariants as op
@@ -10,11 +10,11 @@ use Rattle.x86_meaning.specs.declared.instr.Operand.{Operand}
 use Rattle.x86_meaning.specs.declared.instr.Operand.TheVariants as operand
 use Rattle.x86_meaning.specs.declared.instr.Operand.TheVariants.{Reg}
 use Rattle.x86_meaning.specs.declared.instr.Instr.{Instr}
-use Rattle.x86_meaning.specs.State.{State, reg, with_reg, with_flags, with_rip, with_bytes, rax, rdx, rsp, rbp}
+use Rattle.x86_meaning.specs.State.{State, with_reg, with_flags, with_rip, with_bytes, rax, rdx, rsp, rbp}
 use Rattle.x86_meaning.specs.Access.{address, read, write}
 use Rattle.x86_meaning.specs.Steps.{divided, with_halves}
 use Rattle.x86_meaning.specs.Moves.{below_top, pushed, raised}
-use Rattle.x86_meaning.specs.Next.{executed, transferred, next_by, passes, passes_if}
+use Rattle.x86_meaning.specs.Next.{executed, transferred, next_by, passes_if}
 use Rattle.x86_meaning.specs.Frames.{IsOutside, LeavesByte, ByteLaw}
 use Rattle.x86_meaning.specs.StepLaws.{IsApart}
 use Rattle.x86_meaning.proofs.StoreLemmas.{store_apart}

@@ -1,8 +1,8 @@
 -- A step leaves the registers that it does not write.
-use Rattle.std.proofs.Common.{◌≡◌, ◌≢◌, ℕ, ◌%◌, ◌^◌, Bool, true, false, cond, Option, Some, None, refl, ◌∙◌, subst, ap, get_or, set, get_or-set_other}
+use Rattle.std.proofs.Common.{◌≡◌, ◌≢◌, ℕ, Bool, true, false, cond, Option, Some, None, refl, ◌∙◌, subst, get_or-set_other}
 use Rattle.bits_core.specs.declared.flags.Flags.{Flags}
 use Rattle.bits_core.specs.declared.width.Width.{Width}
-use Rattle.bits_core.specs.declared.width.Width.TheVariants.{W8, W64}
+use Rattle.bits_core.specs.declared.width.Width.TheVariants.{W64}
 use Rattle.x86_meaning.specs.declared.instr.Op.{Op}
 use Rattle.x86_meaning.specs.declared.instr.Op.TheVariants as op
 use Rattle.x86_meaning.specs.declared.instr.Operand.{Operand}
@@ -13,7 +13,7 @@ use Rattle.x86_meaning.specs.State.{State, reg, with_reg, with_flags, with_rip, 
 use Rattle.x86_meaning.specs.Access.{write}
 use Rattle.x86_meaning.specs.Steps.{divided, with_halves}
 use Rattle.x86_meaning.specs.Moves.{pushed, raised}
-use Rattle.x86_meaning.specs.Next.{executed, transferred, next_by, passes, passes_if}
+use Rattle.x86_meaning.specs.Next.{executed, transferred, next_by, passes_if}
 use Rattle.x86_meaning.specs.Frames.{IsOther, LeavesRegister, RegisterLaw}
 
 -- the register is the same

@@ -1,5 +1,5 @@
 -- A step from a state in range leads to one.
-use Rattle.std.proofs.Common.{◌≡◌, ◌≢◌, ℕ, zero, suc, ◌+◌, ◌-◌, ◌*◌, ◌/◌, ◌%◌, ◌^◌, ◌<◌, ◌≤◌, Bool, true, false, cond, eqb, List, [], ◌∷◌, length, get_or, set, Option, Some, None, refl, sym, ap, subst, ◌∙◌, arith, length-set, get_or-set_other, get_or-set_same}
+use Rattle.std.proofs.Common.{◌≡◌, ℕ, zero, suc, ◌/◌, ◌%◌, ◌^◌, ◌<◌, ◌≤◌, List, [], ◌∷◌, get_or, set, ◌∙◌, arith, length-set}
 use Rattle.std.proofs.Math.Nat.{pow-succ'}
 use Rattle.bits_core.specs.declared.flags.Flags.{Flags}
 use Rattle.bits_core.specs.declared.width.Width.{Width}

@@ -1,6 +1,5 @@
 -- The laws of steps: the state in range, calls and returns, by the operation.
-use Rattle.std.proofs.Common.{◌≡◌, ◌≢◌, ℕ, zero, suc, ◌+◌, ◌-◌, ◌*◌, ◌/◌, ◌%◌, ◌^◌, ◌<◌, ◌≤◌, Bool, true, false, cond, List, Option, Some, None, refl, sym, ap, subst, ◌∙◌, arith, length, get_or, set, get_or-set_same, get_or-set_other}
-use Rattle.bits_core.specs.declared.flags.Flags.{Flags}
+use Rattle.std.proofs.Common.{◌≡◌, ◌≢◌, ℕ, ◌^◌, ◌<◌, Bool, true, false, cond, Option, Some, None, refl, ap, subst, ◌∙◌, arith, length, get_or-set_same, get_or-set_other}
 use Rattle.bits_core.specs.declared.width.Width.{Width}
 use Rattle.bits_core.specs.declared.width.Width.TheVariants.{W8, W16, W32, W64}
 use Rattle.bits_core.specs.Width.{bits_of}
@@ -11,15 +10,15 @@ use Rattle.x86_meaning.specs.declared.instr.Operand.TheVariants as operand
 use Rattle.x86_meaning.specs.declared.instr.Operand.TheVariants.{Reg}
 use Rattle.x86_meaning.specs.declared.instr.Instr.{Instr}
 use Rattle.x86_meaning.specs.Kinds.{Kinds, dst_kinds}
-use Rattle.x86_meaning.specs.Fits.{IsOperand, InForm}
+use Rattle.x86_meaning.specs.Fits.{IsOperand}
 use Rattle.x86_meaning.specs.Memory.{behind, loaded, stored}
 use Rattle.x86_meaning.specs.StepLaws.{StateLaw, CallLaw, ReturnLaw, Pushes, Returns}
 use Rattle.x86_meaning.proofs.StoreLemmas.{store_back}
-use Rattle.x86_meaning.specs.State.{State, IsState, reg, with_reg, with_flags, with_rip, with_bytes, rax, rdx, rsp, rbp}
-use Rattle.x86_meaning.specs.Access.{read, write}
-use Rattle.x86_meaning.specs.Steps.{divided, quotients, with_halves}
+use Rattle.x86_meaning.specs.State.{State, IsState, reg, with_reg, with_rip, with_bytes, rax, rdx, rsp, rbp}
+use Rattle.x86_meaning.specs.Access.{read}
+use Rattle.x86_meaning.specs.Steps.{divided, with_halves}
 use Rattle.x86_meaning.specs.Moves.{below_top, holds, pushed, raised, quad_at}
-use Rattle.x86_meaning.specs.Next.{executed, transferred, next, next_by, next_address, passes, passes_if}
+use Rattle.x86_meaning.specs.Next.{executed, transferred, next_by, next_address, passes, passes_if}
 use Rattle.x86_meaning.proofs.StateLemmas.{FitsQuad, state_reg, state_flags, state_rip, state_bytes, state_write, quad_below, read_below, reg_below}
 
 some_same : {s t : State} → Some s ≡ Some t → s ≡ t

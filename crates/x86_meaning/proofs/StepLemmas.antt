@@ -1,6 +1,6 @@
 -- What an instruction in form has, and which operations the groups of steps leave.
-use Rattle.std.proofs.Common.{◌≡◌, ◌≢◌, ℕ, ◌<◌, Bool, true, false, Option, Some, None, refl, sym, ap, subst, ◌∙◌}
-use Rattle.std.specs.Prelude.{IfSome, is_some}
+use Rattle.std.proofs.Common.{◌≡◌, ◌≢◌, ℕ, ◌<◌, false, Option, Some, None, refl, sym, ap, subst, ◌∙◌}
+use Rattle.std.specs.Prelude.{IfSome}
 use Rattle.std.proofs.lemmas.Bool.{false≢true}
 use Rattle.bits_core.specs.declared.width.Width.{Width}
 use Rattle.x86_meaning.specs.declared.instr.Op.{Op}

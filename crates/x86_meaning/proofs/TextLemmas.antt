@@ -1,5 +1,5 @@
 -- Which operations the tables of mnemonics and operands leave.
-use Rattle.std.proofs.Common.{◌≡◌, ◌≢◌, ℕ, List, [], refl}
+use Rattle.std.proofs.Common.{◌≡◌, ◌≢◌, ℕ, [], refl}
 use Rattle.bits_core.specs.declared.width.Width.{Width}
 use Rattle.x86_meaning.specs.declared.instr.Op.{Op}
 use Rattle.x86_meaning.specs.declared.instr.Op.TheVariants as op

@@ -1,5 +1,5 @@
 -- How operands are read and written (Intel SDM volume 1, 3.4.1.1: parts of registers; 3.7.5: addresses).
-use Rattle.std.specs.Prelude.{ℕ, ◌+◌, ◌-◌, ◌*◌, ◌/◌, ◌%◌, ◌^◌, ◌<◌, Bool, true, false, if◌then◌else◌, Option, Some, None, IfSome}
+use Rattle.std.specs.Prelude.{ℕ, ◌+◌, ◌*◌, ◌/◌, ◌%◌, ◌^◌, ◌<◌, Bool, true, false, Option, Some, None, IfSome}
 use Rattle.bits_core.specs.declared.width.Width.{Width}
 use Rattle.bits_core.specs.declared.width.Width.TheVariants.{W8, W16, W32, W64}
 use Rattle.bits_core.specs.Width.{bytes_of}

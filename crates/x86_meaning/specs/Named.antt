@@ -1,6 +1,5 @@
 -- Which value an instruction names for the one who follows its steps: the loaded one, a register's, or an address.
-use Rattle.std.specs.Prelude.{ℕ, ◌+◌, ◌*◌, ◌-◌, ◌%◌, ◌^◌, Bool, true, false, if◌then◌else◌, Option, Some, None}
-use Rattle.bits_core.specs.declared.width.Width.TheVariants.{W64}
+use Rattle.std.specs.Prelude.{ℕ, Bool, true, false, if◌then◌else◌, Option, Some, None}
 use Rattle.x86_meaning.specs.declared.instr.Op.{Op}
 use Rattle.x86_meaning.specs.declared.instr.Op.TheVariants as op
 use Rattle.x86_meaning.specs.declared.instr.Operand.{Operand}

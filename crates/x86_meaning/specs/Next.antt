@@ -1,10 +1,10 @@
 -- One step of the machine, by the operation (Intel SDM volume 2, chapters 3 to 5).
-use Rattle.std.specs.Prelude.{◌≡◌, ℕ, ◌+◌, ◌%◌, ◌^◌, Bool, true, false, if◌then◌else◌, Option, Some, None}
+use Rattle.std.specs.Prelude.{ℕ, ◌+◌, ◌%◌, ◌^◌, true, false, if◌then◌else◌, Option, Some, None}
 use Rattle.bits_core.specs.declared.width.Width.TheVariants.{W64}
 use Rattle.bits_core.specs.declared.operations.Alu.TheVariants as alu
 use Rattle.bits_core.specs.declared.operations.Shift.TheVariants as shift
 use Rattle.x86_meaning.specs.declared.instr.Op.{Op}
-use Rattle.x86_meaning.specs.declared.instr.Op.TheVariants.{Add, Or, Adc, Sbb, And, Sub, Xor, Cmp, Test, Mov, Lea, Movzx, Movsx, Not, Neg, Mul, Imul1, Div, Idiv, Imul2, Imul3, Inc, Dec, Rol, Ror, Shl, Shr, Sar, Push, Pop, Leave, Widen, Signs, Xchg, Bswap, Cmov, Setcc, Jcc, Jmp, Call, Ret, Nop, Syscall, Hlt, Ud2, Int3}
+use Rattle.x86_meaning.specs.declared.instr.Op.TheVariants.{Add, Or, Adc, Sbb, And, Sub, Xor, Cmp, Test, Mov, Lea, Movzx, Movsx, Not, Neg, Mul, Imul1, Div, Idiv, Imul2, Imul3, Inc, Dec, Rol, Ror, Shl, Shr, Sar, Push, Pop, Leave, Widen, Signs, Xchg, Bswap, Cmov, Setcc, Jcc, Jmp, Call, Ret, Syscall, Hlt, Ud2, Int3}
 use Rattle.x86_meaning.specs.declared.instr.Instr.{Instr}
 use Rattle.x86_meaning.specs.declared.machine.Outcome.{Outcome}
 use Rattle.x86_meaning.specs.declared.machine.Outcome.TheVariants as outcome

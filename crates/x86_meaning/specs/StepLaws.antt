@@ -1,5 +1,5 @@
 -- What every step keeps, and what calls and returns do.
-use Rattle.std.specs.Prelude.{◌≡◌, ◌≢◌, ℕ, ◌+◌, ◌*◌, ◌%◌, ◌^◌, ◌<◌, ◌≤◌, Some}
+use Rattle.std.specs.Prelude.{◌≡◌, ◌≢◌, ℕ, ◌+◌, ◌%◌, ◌^◌, ◌<◌, ◌≤◌, Some}
 use Rattle.bits_core.specs.declared.width.Width.TheVariants.{W64}
 use Rattle.x86_meaning.specs.declared.instr.Op.TheVariants as op
 use Rattle.x86_meaning.specs.declared.instr.Instr.{Instr}

@@ -1,18 +1,12 @@
 -- What the groups of instructions do to the state, rip apart (Intel SDM volume 2, chapters 3 to 5).
-use Rattle.std.specs.Prelude.{ℕ, ◌+◌, ◌-◌, ◌/◌, ◌%◌, ◌^◌, nat_lt, nat_le, ◌==◌, Bool, true, false, not, ◌&&◌, ◌||◌, if◌then◌else◌, Option, Some, None}
-use Rattle.std.specs.Int.{swap_bytes, w32, w64}
+use Rattle.std.specs.Prelude.{ℕ, ◌-◌, ◌/◌, ◌%◌, ◌^◌, nat_lt, ◌==◌, Bool, true, false, not, if◌then◌else◌, Option, Some, None}
 use Rattle.bits_core.specs.declared.width.Width.{Width}
-use Rattle.bits_core.specs.declared.width.Width.TheVariants.{W8, W16, W32, W64}
 use Rattle.bits_core.specs.declared.flags.Flags.{Flags}
 use Rattle.bits_core.specs.declared.operations.Alu.{Alu}
 use Rattle.bits_core.specs.declared.operations.Alu.TheVariants.{Sub}
-use Rattle.bits_core.specs.declared.operations.Shift.{Shift}
-use Rattle.bits_core.specs.declared.operations.Shift.TheVariants.{Rol, Ror}
 use Rattle.bits_core.specs.Width.{bits_of}
-use Rattle.bits_core.specs.LowBits.{cut_of, sext_of}
+use Rattle.bits_core.specs.LowBits.{sext_of}
 use Rattle.bits_core.specs.Arithmetic.{alu_of}
-use Rattle.bits_core.specs.Condition.{condition_of}
-use Rattle.bits_core.specs.Shifts.{shift_of, counts_of}
 use Rattle.bits_core.specs.Wide.{product_of, quotient_of}
 use Rattle.x86_meaning.specs.declared.instr.Operand.TheVariants.{Reg}
 use Rattle.x86_meaning.specs.declared.instr.Instr.{Instr}
