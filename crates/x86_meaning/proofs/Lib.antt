@@ -1,3 +1,11 @@
 pub mod OperandLemmas
 pub mod TableLemmas
 pub mod FormLemmas
+pub mod MemoryLemmas
+pub mod StepLemmas
+pub mod TextLemmas
+pub mod StateLemmas
+pub mod StoreLemmas
+pub mod StepLawLemmas
+pub mod FrameLemmas
+pub mod ByteFrameLemmas

@@ -9,3 +9,14 @@ pub mod Instructions
 pub mod Spells
 pub mod Kinds
 pub mod Fits
+pub mod Memory
+pub mod State
+pub mod Access
+pub mod Steps
+pub mod Moves
+pub mod Next
+pub mod Named
+pub mod StepLaws
+pub mod Frames
+pub mod Names
+pub mod InstructionText

@@ -1,0 +1,27 @@
+//! Takes the steps that a real processor took, which stand on standard input as tools/record_steps.c printed them, and
+//! prints how many led elsewhere, after their rows.
+#![tactic(auto)]
+
+mod replay;
+
+use replay::is_as_recorded;
+use std::io::Read;
+use std::{io, str};
+
+fn main(rt: HostRuntime) -> io::Result<()> {
+    let mut bytes = Vec::new(rt.alloc());
+    rt.stdin().read_to_end(&mut bytes)?;
+    let Ok(text) = str::from_utf8(bytes.as_slice()) else {
+        return println!(rt; "not text");
+    };
+    let mut rows = 0u64;
+    let mut others = 0u64;
+    for row in text.lines() {
+        rows = rows.saturating_add(1);
+        if !is_as_recorded(rt.alloc(), row) {
+            others = others.saturating_add(1);
+            println!(rt; "{row}")?;
+        }
+    }
+    println!(rt; "{rows} steps, {others} not as recorded")
+}
