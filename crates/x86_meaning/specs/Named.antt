@@ -1,5 +1,5 @@
 -- Which value an instruction names for the one who follows its steps: the loaded one, a register's, or an address.
-use Rattle.std.specs.Prelude.{ℕ, Bool, true, false, if◌then◌else◌, Option, Some, None}
+use Rattle.std.specs.Prelude.{◌≡◌, ℕ, Bool, true, false, if◌then◌else◌, Option, Some, None}
 use Rattle.x86_meaning.specs.declared.instr.Op.{Op}
 use Rattle.x86_meaning.specs.declared.instr.Op.TheVariants as op
 use Rattle.x86_meaning.specs.declared.instr.Operand.{Operand}
@@ -81,3 +81,8 @@ value_of Nothing s i t = None
 -- the value that the instruction names as one state becomes another
 abbrev pub named_value : State → Instr → State → Option ℕ
 named_value s i t = value_of (names i) s i t
+
+-- where a register is named, the value is what that register has after the step
+abbrev pub NamedLaw : Type 0
+NamedLaw =
+    (s t : State) (i : Instr) (r : ℕ) → names i ≡ Register r → named_value s i t ≡ Some (reg t r)

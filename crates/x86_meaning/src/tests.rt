@@ -1,4 +1,5 @@
 ghost use Rattle.std.specs.Prelude.{◌≡◌};
+ghost use Rattle.x86_meaning.specs.Spells.{endbr64_at};
 
 use crate::{Instr, Machine, Op, Operand, Outcome, Place, write_instr};
 use bits_core::Width;
@@ -7,7 +8,7 @@ use std::process::Abort;
 use std::test::Fail;
 
 fn instr(op: Op, width: Width, dst: Operand, src: Operand) -> Instr
-    ensures { result ≡ record { addr = 0x400078; len = 2; op = op; width = width; src_width = width; cc = 0; dst = dst; src = src; extra = 0 } }
+    ensures { result ≡ record (endbr64_at 0x400078) { len = 2; op = op; width = width; src_width = width; dst = dst; src = src } }
 {
     Instr {
         addr: 0x40_0078,
