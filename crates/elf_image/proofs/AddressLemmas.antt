@@ -46,11 +46,11 @@ fixed-IsAt addr n l = record {
 pub ends_by-partitioned : (segs : List Segment) → AreSegments segs → (addr : ℕ) → IsPartitionedBy (λ s. nat_le (s.lo + s.size) addr) segs
 ends_by-partitioned segs are addr i j d l m e =
     elim (below-or-same i j l) [
-      inl before ↦
-        let apart = are.ascend i j d before m in
-        let end = leb-true _ _ e in
-        le-leb _ _ (omega arith)
-    | inr same ↦ rw same e
+      | inl before ↦
+          let apart = are.ascend i j d before m in
+          let end = leb-true _ _ e in
+          le-leb _ _ (omega arith)
+      | inr same ↦ rw same e
     ]
 
 only_at : (p : Segment → Bool) (segs : List Segment) (at : ℕ)
@@ -60,8 +60,8 @@ only_at : (p : Segment → Bool) (segs : List Segment) (at : ℕ)
 only_at p [] at before behind = refl
 only_at p (s ∷ segs) zero before behind =
     elim (p s) as (λ b. cond b (Some s) (find p segs) ≡ cond b (Some s) None) [
-      true ↦ refl
-    | false ↦ find-none p segs (λ k d l. behind (suc k) d (omega arith) (omega arith))
+      | true ↦ refl
+      | false ↦ find-none p segs (λ k d l. behind (suc k) d (omega arith) (omega arith))
     ]
 only_at p (s ∷ segs) (suc at) before behind =
     let first : p s ≡ false = before zero s (omega arith) (omega arith) in
@@ -73,12 +73,12 @@ pub find-at : (segs : List Segment) → AreSegments segs → (addr at : ℕ)
     → (p : Segment → Bool) → IsAt addr p → find p segs ≡ kept p (slice_get segs at)
 find-at segs are addr at point p is_at =
     only_at p segs at
-      (λ k d l m. not-true _ (λ yes.
-        let ended = leb-true _ _ (point.0 k d (omega arith) l) in
-        let inside = is_at.ends _ (are.each k d m) yes in
-        omega arith))
-      (λ k d l m. not-true _ (λ yes.
-        let open_end = leb-false _ _ (point.1 at d (omega arith) (omega arith)) in
-        let apart = are.ascend at k d l m in
-        let begun = is_at.begins _ yes in
-        omega arith))
+    (λ k d l m. not-true _ (λ yes.
+    let ended = leb-true _ _ (point.0 k d (omega arith) l) in
+    let inside = is_at.ends _ (are.each k d m) yes in
+    omega arith))
+    (λ k d l m. not-true _ (λ yes.
+    let open_end = leb-false _ _ (point.1 at d (omega arith) (omega arith)) in
+    let apart = are.ascend at k d l m in
+    let begun = is_at.begins _ yes in
+    omega arith))

@@ -54,12 +54,12 @@ AreSegments-loaded file sound =
         not_empty = has-bytes (get_or hs k d) (kept-pass is_loaded (headers_of file) k d l) (sound.in_memory k d l);
         ends = sound.below_top k d l;
         holds_file =
-          let short = sound.in_memory k d l in
-          omega (arith, length-take (get_or hs k d).file_size (drop (get_or hs k d).offset file));
+            let short = sound.in_memory k d l in
+            omega (arith, length-take (get_or hs k d).file_size (drop (get_or hs k d).offset file));
       });
       ascend = λ i j d before l.
-        let within : j < length hs = rw length-map at l in
-        ascended file hs (ascend (length file) hs sound) i j d before within;
+          let within : j < length hs = rw length-map at l in
+          ascended file hs (ascend (length file) hs sound) i j d before within;
     }
 
 -- the headers so far that load something, with one more that does

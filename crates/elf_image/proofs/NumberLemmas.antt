@@ -30,21 +30,21 @@ zeros-behind (x ∷ xs) zeros all (suc k) = zeros-behind xs zeros all k
 within-take : (m k : ℕ) (xs : List ℕ) → (m ≤ k → length xs ≤ k) → slice_index (take m xs) k ≡ slice_index xs k
 within-take m k xs past =
     elim (below-or-from k m) [
-      inl inside ↦ get_or-take m xs k 0 inside
-    | inr outside ↦
-        get_or_past (take m xs) k 0 (omega (arith, length-take m xs))
-        ∙ sym (get_or_past xs k 0 (past outside))
+      | inl inside ↦ get_or-take m xs k 0 inside
+      | inr outside ↦
+          get_or_past (take m xs) k 0 (omega (arith, length-take m xs))
+          ∙ sym (get_or_past xs k 0 (past outside))
     ]
 
 -- the place k behind a place, which is the end where it is past that
 place-behind : (at k : ℕ) (xs : List ℕ) → slice_index (drop (min (length xs) at) xs) k ≡ slice_index xs (at + k)
 place-behind at k xs =
     elim (below-or-from at (length xs)) [
-      inl inside ↦ let e : min (length xs) at ≡ at = omega arith in rw e (get_or-drop at xs k 0)
-    | inr outside ↦
-        get_or-drop (min (length xs) at) xs k 0
-        ∙ get_or_past xs (min (length xs) at + k) 0 (omega arith)
-        ∙ sym (get_or_past xs (at + k) 0 (omega arith))
+      | inl inside ↦ let e : min (length xs) at ≡ at = omega arith in rw e (get_or-drop at xs k 0)
+      | inr outside ↦
+          get_or-drop (min (length xs) at) xs k 0
+          ∙ get_or_past xs (min (length xs) at + k) 0 (omega arith)
+          ∙ sym (get_or_past xs (at + k) 0 (omega arith))
     ]
 
 -- the first n bytes from a place on, with zeros behind them, give the number in the segment there
@@ -57,10 +57,10 @@ number-padded n at from known r s from_is known_is =
     let long = length-drop from s.bytes in
     let short = length-take (length s.bytes - from) rest in
     little_from-same 0 n _ _ (λ k l.
-      zeros-behind (take known (take (length s.bytes - from) rest)) (drop known (replicate r 0)) (λ j. get_or-drop known (replicate r 0) j 0 ∙ zeros-at r (known + j)) k
-      ∙ within-take known k (take (length s.bytes - from) rest) (λ past. omega arith)
-      ∙ within-take (length s.bytes - from) k rest (λ past. omega arith)
-      ∙ ap (λ f. slice_index (drop f s.bytes) k) from_is
-      ∙ place-behind at k s.bytes
-      ∙ sym (zeros-behind s.bytes (replicate (s.size - length s.bytes) 0) (zeros-at (s.size - length s.bytes)) (at + k))
-      ∙ sym (get_or-drop at (memory_of s) k 0))
+    zeros-behind (take known (take (length s.bytes - from) rest)) (drop known (replicate r 0)) (λ j. get_or-drop known (replicate r 0) j 0 ∙ zeros-at r (known + j)) k
+    ∙ within-take known k (take (length s.bytes - from) rest) (λ past. omega arith)
+    ∙ within-take (length s.bytes - from) k rest (λ past. omega arith)
+    ∙ ap (λ f. slice_index (drop f s.bytes) k) from_is
+    ∙ place-behind at k s.bytes
+    ∙ sym (zeros-behind s.bytes (replicate (s.size - length s.bytes) 0) (zeros-at (s.size - length s.bytes)) (at + k))
+    ∙ sym (get_or-drop at (memory_of s) k 0))

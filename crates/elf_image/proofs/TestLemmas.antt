@@ -18,8 +18,8 @@ pub first_refusal-append : (xs ys : Tests) → first_refusal (xs ++ ys) ≡ eith
 first_refusal-append [] ys = refl
 first_refusal-append (x ∷ xs) ys =
     elim x.0 as (λ b. cond b (Some x.1) (first_refusal (xs ++ ys)) ≡ either (cond b (Some x.1) (first_refusal xs)) (first_refusal ys)) [
-      true ↦ refl
-    | false ↦ first_refusal-append xs ys
+      | true ↦ refl
+      | false ↦ first_refusal-append xs ys
     ]
 
 -- the refusal of a file by the three lists in turn

@@ -70,9 +70,9 @@ segment_tests size loaded =
 unfoldable pub refusal_of : List ℕ → Option ElfRefusal
 refusal_of file =
     first_refusal (
-      identification_tests file
-      ++ header_tests file
-      ++ segment_tests (length file) (loaded_of file)
+    identification_tests file
+    ++ header_tests file
+    ++ segment_tests (length file) (loaded_of file)
     )
 
 -- the place of a refusal among the tests, from 1 on

@@ -147,7 +147,11 @@ impl Image {
         ensures inside { IfSome result (λ s. IsTrue (has_code_at addr s.now)) }
     {
         let segment = self.segment_at(addr)?;
-        if segment.has_code(addr) { Some(segment) } else { None }
+        if segment.has_code(addr) {
+            Some(segment)
+        } else {
+            None
+        }
     }
 
     // The segment with the bytes that the program does not change.
@@ -168,7 +172,10 @@ impl Image {
     fn segment_at(&self, addr: u64) -> Option<&Segment>
         ensures { (p : PlainSegment → Bool) → IsAt addr p → find p self.now.segs ≡ kept p (option_copied result) }
     {
-        let at = self.segs.as_slice().partition_point(|segment| segment.ends_by(addr));
+        let at = self
+            .segs
+            .as_slice()
+            .partition_point(|segment| segment.ends_by(addr));
         self.segs.get(at)
     }
 }

@@ -33,7 +33,11 @@ pub fn loaded_headers(alloc: Global, file: &[u8]) -> Result<Items<ProgramHeader>
 }
 
 /// A segment for each header.
-pub fn load_segments(alloc: Global, file: &[u8], headers: &[ProgramHeader]) -> Result<Items<Segment>, ElfRefusal>
+pub fn load_segments(
+    alloc: Global,
+    file: &[u8],
+    headers: &[ProgramHeader],
+) -> Result<Items<Segment>, ElfRefusal>
     requires { All (λ h. h.offset + h.file_size ≤ length file.now) headers.now }
     ensures ok { IfOk result (λ segs. segs ≡ map (segment_of file.now) headers.now) }
     ensures err { IfErr result (λ e. e ≡ ElfRefusal.NoMemory) }

@@ -13,8 +13,8 @@ loop-k-preserved c =
     let header : c.read-header.result ≡ f c.loop-k.k = c.read-header.ensures ∙ ap (λ t. header_at file (t + 56 * c.loop-k.k)) c.u64_at-table.ensures in
     let test = c.is_loaded.ensures ∙ ap is_loaded header in
     elim c.if-is_loaded.branch [
-      then-is_loaded+in_ok-push w ↦
-        loaded-more f c.loop-k.k c.loop-k.loaded _ c.loop-k.invariant (sym test ∙ w.if-is_loaded.true)
+      | then-is_loaded+in_ok-push w ↦
+          loaded-more f c.loop-k.k c.loop-k.loaded _ c.loop-k.invariant (sym test ∙ w.if-is_loaded.true)
           (w.loaded-is ∙ w.in_ok-push.ensures.ok ∙ ap (λ (h : ProgramHeader). c.loop-k.loaded ++ h ∷ []) header)
-    | else-is_loaded w ↦ loaded-same f c.loop-k.k c.loop-k.loaded _ c.loop-k.invariant (sym test ∙ w.if-is_loaded.false) w.loaded-is
+      | else-is_loaded w ↦ loaded-same f c.loop-k.k c.loop-k.loaded _ c.loop-k.invariant (sym test ∙ w.if-is_loaded.false) w.loaded-is
     ]

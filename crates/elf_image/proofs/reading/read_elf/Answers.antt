@@ -25,7 +25,7 @@ load_segments-requires c =
     let loaded = c.in_ok-headers.ensures.ok in
     let tests = ap (λ hs. first_refusal (segment_tests (length file) hs)) (sym (c.as_slice.ensures ∙ loaded)) in
     let none : first_refusal (segment_tests (length file) (loaded_of file)) ≡ None =
-        tests ∙ sym c.segment_refusal.ensures ∙ c.in_default-segment_refusal.is in
+    tests ∙ sym c.segment_refusal.ensures ∙ c.in_default-segment_refusal.is in
     rw (c.as_slice-2.ensures ∙ loaded) (sound-from-tests (length file) (loaded_of file) none).inside
 
 pub returns-clause-found : goal.returns-clause-found
@@ -34,8 +34,7 @@ returns-clause-found c =
     let loaded = c.in_ok-headers.ensures.ok in
     let tests = ap (λ hs. first_refusal (segment_tests (length file) hs)) (sym (c.as_slice.ensures ∙ loaded)) in
     let segs : c.in_ok-segs.segs ≡ map (segment_of file) (loaded_of file) =
-        c.in_ok-segs.ensures.ok ∙ ap (map (segment_of file)) (c.as_slice-2.ensures ∙ loaded) in
-    (
+    c.in_ok-segs.ensures.ok ∙ ap (map (segment_of file)) (c.as_slice-2.ensures ∙ loaded) in (
       refusal_of-third file (cc) (cc) ∙ tests ∙ sym c.segment_refusal.ensures ∙ c.in_default-segment_refusal.is,
       cc,
     )
@@ -46,9 +45,9 @@ invariant_of-result c =
     let loaded = c.in_ok-headers.ensures.ok in
     let tests = ap (λ hs. first_refusal (segment_tests (length file) hs)) (sym (c.as_slice.ensures ∙ loaded)) in
     let segs : c.in_ok-segs.segs ≡ map (segment_of file) (loaded_of file) =
-        c.in_ok-segs.ensures.ok ∙ ap (map (segment_of file)) (c.as_slice-2.ensures ∙ loaded) in
+    c.in_ok-segs.ensures.ok ∙ ap (map (segment_of file)) (c.as_slice-2.ensures ∙ loaded) in
     let none : first_refusal (segment_tests (length file) (loaded_of file)) ≡ None =
-        tests ∙ sym c.segment_refusal.ensures ∙ c.in_default-segment_refusal.is in
+    tests ∙ sym c.segment_refusal.ensures ∙ c.in_default-segment_refusal.is in
     rw segs (AreSegments-loaded file (sound-from-tests (length file) (loaded_of file) none))
 
 pub returns-clause-ascending : goal.returns-clause-ascending
@@ -57,7 +56,7 @@ returns-clause-ascending c =
     let loaded = c.in_ok-headers.ensures.ok in
     let tests = ap (λ hs. first_refusal (segment_tests (length file) hs)) (sym (c.as_slice.ensures ∙ loaded)) in
     let segs : c.in_ok-segs.segs ≡ map (segment_of file) (loaded_of file) =
-        c.in_ok-segs.ensures.ok ∙ ap (map (segment_of file)) (c.as_slice-2.ensures ∙ loaded) in
+    c.in_ok-segs.ensures.ok ∙ ap (map (segment_of file)) (c.as_slice-2.ensures ∙ loaded) in
     let none : first_refusal (segment_tests (length file) (loaded_of file)) ≡ None =
-        tests ∙ sym c.segment_refusal.ensures ∙ c.in_default-segment_refusal.is in
+    tests ∙ sym c.segment_refusal.ensures ∙ c.in_default-segment_refusal.is in
     rw segs (AreSegments-loaded file (sound-from-tests (length file) (loaded_of file) none))

@@ -15,6 +15,6 @@ returns c =
     let same : segs ≡ c.args.self.now.segs = ap (λ (i : Image). i.segs) c.self.view_is in
     let point = IsPartitionPoint-from_clause (λ s. nat_le (s.lo + s.size) addr) segs c.partition_point-at.result (rw c.as_slice.ensures at c.partition_point-at.ensures.partitioned) (ends_by-partitioned segs c.self.invariant addr) (λ a r q k. search rules) in
     λ p is_at.
-      ap (λ (xs : List Segment). find p xs) (sym same)
-      ∙ find-at segs c.self.invariant addr c.partition_point-at.result point p is_at
-      ∙ ap (kept p) (sym c.get.ensures.value)
+    ap (λ (xs : List Segment). find p xs) (sym same)
+    ∙ find-at segs c.self.invariant addr c.partition_point-at.result point p is_at
+    ∙ ap (kept p) (sym c.get.ensures.value)
