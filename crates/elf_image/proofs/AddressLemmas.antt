@@ -1,11 +1,11 @@
 -- Where segments ascend and do not overlap, the first one that ends behind an address is the one that may have it.
-use Rattle.std.proofs.Common.{◌≡◌, ℕ, zero, suc, ◌+◌, ◌<◌, ◌≤◌, Bool, true, false, cond, ◌&&◌, List, [], ◌∷◌, length, get_or, Option, Some, None, is_some, refl, sym, ◌∙◌, ap, arith, find, slice_get, inl, inr, nat_le, ◌⊎◌}
+use Rattle.std.proofs.Common.{◌≡◌, ℕ, zero, suc, ◌+◌, ◌<◌, ◌≤◌, Bool, true, false, cond, ◌&&◌, List, [], ◌∷◌, length, get_or, Option, Some, None, is_some, refl, ◌∙◌, ap, arith, find, slice_get, inl, inr, nat_le}
 use Rattle.std.specs.List.{list_any}
 use Rattle.std.specs.List.Sorted.{IsPartitionPoint, IsPartitionedBy}
 use Rattle.std.proofs.lemmas.Bool.{leb-true, leb-false, le-leb}
 use Rattle.std.proofs.lemmas.Bool.Decides.{nat_tests}
 use Rattle.elf_image.specs.declared.image.Segment.{Segment}
-use Rattle.elf_image.specs.Segments.{IsSegment, AreSegments}
+use Rattle.elf_image.specs.Segments.{AreSegments}
 use Rattle.elf_image.specs.Image.{has_code_at, holds_bytes, is_fixed}
 use Rattle.elf_image.specs.At.{IsAt, kept}
 use Rattle.elf_image.proofs.ListLemmas.{not-true, find-none, list_any-find, below-or-same}

@@ -1,5 +1,5 @@
 -- The segments that sound headers load ascend and do not overlap.
-use Rattle.std.proofs.Common.{◌≡◌, ℕ, zero, suc, ◌+◌, ◌*◌, ◌^◌, ◌<◌, ◌≤◌, Bool, true, false, cond, not, ◌&&◌, ◌==◌, List, [], ◌∷◌, length, get_or, map, take, drop, filter, refl, sym, ◌∙◌, ap, arith, add-one, All, length-take, inl, inr, ◌++◌, append-nil}
+use Rattle.std.proofs.Common.{Option, None, ◌≡◌, ℕ, suc, ◌+◌, ◌<◌, ◌≤◌, Bool, true, false, cond, List, [], ◌∷◌, length, get_or, map, drop, filter, refl, sym, ◌∙◌, ap, arith, add-one, All, length-take, ◌++◌, append-nil}
 use Rattle.std.specs.List.{AllPairs, range_with_len}
 use Rattle.std.specs.List.Sorted.{IsNonDecreasingBy}
 use Rattle.std.proofs.lemmas.Bool.Decides.{nat_tests}
@@ -12,7 +12,9 @@ use Rattle.elf_image.specs.declared.image.Segment.{Segment}
 use Rattle.elf_image.specs.Segments.{IsSegment, AreSegments}
 use Rattle.elf_image.specs.File.{is_loaded, headers_of, loaded_of}
 use Rattle.elf_image.specs.Loaded.{segment_of}
-use Rattle.elf_image.proofs.TestLemmas.{AreSound}
+use Rattle.elf_image.specs.declared.refusal.ElfRefusal.{ElfRefusal}
+use Rattle.elf_image.specs.Refusal.{first_refusal, segment_tests}
+use Rattle.elf_image.proofs.TestLemmas.{AreSound, sound-from-tests}
 
 -- one more element that passes or is left out
 elim-test : (p : ProgramHeader → Bool) (x : ProgramHeader) (rest : List ProgramHeader) (b : Bool) → p x ≡ b → All (λ h. p h ≡ true) rest → All (λ h. p h ≡ true) (cond b (x ∷ rest) rest)
@@ -77,3 +79,9 @@ pub loaded-same : (f : ℕ → ProgramHeader) (k : ℕ) (before after : List Pro
 loaded-same f k before after were fails is =
     let more = filter_of_map_range_with_len_more is_loaded f 0 k k (omega arith) in
     is ∙ were ∙ sym (more ∙ ap (λ t. filter is_loaded (map f (range_with_len 0 k)) ++ cond t (f k ∷ []) []) fails ∙ append-nil _)
+
+-- headers that load something and that no test refuses are sound
+pub sound-loaded : (file : List ℕ) (hs : List ProgramHeader) (refusal : Option ElfRefusal) → hs ≡ loaded_of file
+    → refusal ≡ first_refusal (segment_tests (length file) hs) → refusal ≡ None → AreSound (length file) (loaded_of file)
+sound-loaded file hs refusal same tested none =
+    sound-from-tests (length file) (loaded_of file) (ap (λ xs. first_refusal (segment_tests (length file) xs)) (sym same) ∙ sym tested ∙ none)

@@ -1,5 +1,5 @@
 -- What is known of a file where no test of a list is true.
-use Rattle.std.proofs.Common.{◌≡◌, ℕ, zero, suc, ◌+◌, ◌*◌, ◌^◌, ◌<◌, ◌≤◌, Bool, true, false, cond, List, [], ◌∷◌, ◌++◌, length, get_or, drop, zip, Option, Some, None, refl, sym, ◌∙◌, ap, arith, add-one, All, nat_lt, nat_le}
+use Rattle.std.proofs.Common.{◌≡◌, ℕ, zero, suc, ◌+◌, ◌^◌, ◌<◌, ◌≤◌, Bool, true, false, cond, List, [], ◌∷◌, ◌++◌, length, get_or, drop, zip, Option, Some, None, refl, sym, ◌∙◌, ap, arith, All}
 use Rattle.std.specs.List.{list_any}
 use Rattle.std.proofs.lemmas.Bool.{ltb-false, leb-false}
 use Rattle.elf_image.specs.declared.header.ProgramHeader.{ProgramHeader}

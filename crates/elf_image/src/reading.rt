@@ -2,7 +2,7 @@
 ghost use Rattle.std.specs.Prelude.{◌≡◌, ℕ, ◌+◌, ◌<◌, ◌⊎◌, List, length, IfOk, IfErr, Some, None};
 ghost use Rattle.elf_image.specs.File.{entry_of};
 ghost use Rattle.elf_image.specs.Image.{IsImage};
-ghost use Rattle.elf_image.specs.Loaded.{image_of, segment_of};
+ghost use Rattle.elf_image.specs.Loaded.{IsImageOf};
 ghost use Rattle.elf_image.specs.Refusal.{refusal_of};
 
 use crate::checks::{header_refusal, identification_refusal, segment_refusal};
@@ -18,7 +18,7 @@ use std::alloc::Global;
 /// [`ElfRefusal`] in their order, from `TooShort` to `SegmentsUnordered`. `NoMemory` says nothing of the file. Each
 /// segment has a copy of its bytes in the file; besides, at most 64 program headers are kept at a time.
 pub fn read_elf(alloc: Global, file: &[u8]) -> Result<Image, ElfRefusal>
-    ensures found { IfOk result (λ image. (refusal_of file.now ≡ None) × (image ≡ image_of file.now)) }
+    ensures found { IfOk result (λ image. IsImageOf file.now image) }
     ensures refused { IfErr result (λ e. (e ≡ ElfRefusal.NoMemory) ⊎ (refusal_of file.now ≡ Some e)) }
     ensures ascending { IfOk result (λ image. IsImage image) }
 {

@@ -1,5 +1,5 @@
 -- One more header, which is kept where it loads something.
-use Rattle.std.proofs.Common.{◌≡◌, ℕ, ◌+◌, ◌*◌, ◌++◌, [], ◌∷◌, true, false, sym, ◌∙◌, ap}
+use Rattle.std.proofs.Common.{◌≡◌, ℕ, ◌+◌, ◌*◌, ◌++◌, [], ◌∷◌, sym, ◌∙◌, ap}
 use Rattle.elf_image.specs.declared.header.ProgramHeader.{ProgramHeader}
 use Rattle.elf_image.specs.File.{table_of, header_at, is_loaded}
 use Rattle.elf_image.proofs.LoadLemmas.{loaded-more, loaded-same}

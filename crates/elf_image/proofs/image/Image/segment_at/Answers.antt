@@ -3,7 +3,6 @@ use Rattle.std.proofs.Common.{◌≡◌, ◌+◌, ◌∙◌, List, ap, sym, nat_
 use Rattle.std.proofs.lemmas.List.Sorted.{IsPartitionPoint-from_clause}
 use Rattle.elf_image.specs.declared.image.Segment.{Segment}
 use Rattle.elf_image.specs.declared.image.Image.{Image}
-use Rattle.elf_image.specs.Segments.{AreSegments}
 use Rattle.elf_image.specs.At.{kept}
 use Rattle.elf_image.proofs.AddressLemmas.{ends_by-partitioned, find-at}
 use Rattle.elf_image.proofs.image.Image.segment_at.Goals as goal

@@ -1,5 +1,5 @@
 -- The bytes that are copied are those of the file, and zeros stand behind them in both lists.
-use Rattle.std.proofs.Common.{◌≡◌, ◌∙◌, ap, sym, min, length, take, drop, ◌-◌, ◌++◌, replicate, List, ℕ}
+use Rattle.std.proofs.Common.{◌≡◌, ◌∙◌, ap, min, length, take, drop, ◌-◌, ◌++◌, replicate, List, ℕ}
 use Rattle.byteorder.specs.Endian.{little_number}
 use Rattle.elf_image.proofs.NumberLemmas.{number-padded}
 use Rattle.elf_image.proofs.image.Segment.number.Goals as goal
