@@ -24,7 +24,12 @@ fn main(rt: HostRuntime) -> io::Result<ExitCode> {
     println!(rt; "entry {:x}", image.entry)?;
     for segment in image.segments() {
         let flags = flags_of(segment);
-        println!(rt; "{:x} {:x} {:x} {flags}", segment.lo, segment.size, segment.bytes.len())?;
+        println!(rt;
+            "{:x} {:x} {:x} {flags}",
+            segment.lo,
+            segment.size,
+            segment.bytes.len()
+        )?;
     }
     Ok(ExitCode::SUCCESS)
 }
