@@ -1,1 +1,5 @@
-pub mod BaseFileLemmas
+pub mod ListLemmas
+pub mod AddressLemmas
+pub mod NumberLemmas
+pub mod TestLemmas
+pub mod LoadLemmas

@@ -1,0 +1,54 @@
+#!/usr/bin/env bash
+# Times elf_bench, which reads an executable from standard input, on a file of 64 MiB against `cat` of the file to
+# /dev/null, and prints the ratio of the two times and the peak memory against the length of the file.
+# Usage: bench/elf.sh [MEBIBYTES]
+set -eu
+top=$(cd "$(dirname "$0")/.." && pwd)
+for tool in python3 rt; do
+    command -v "$tool" >/dev/null || { echo "bench/elf.sh: skipped, no $tool"; exit 0; }
+done
+program="$top/crates/elf_bench/out/elf_bench"
+[ -x "$program" ] || (cd "$top/crates/elf_bench" && rt run <stdin >/dev/null)
+work=$(mktemp -d)
+trap 'rm -rf "$work"' EXIT
+python3 - "$program" "$work" "${1:-64}" <<'PY'
+import os, struct, subprocess, sys, time
+
+program, work, mebibytes = sys.argv[1], sys.argv[2], int(sys.argv[3])
+
+# An executable of so many bytes, whose one segment is the file.
+def write(size):
+    path = os.path.join(work, f"{size}.elf")
+    header = b"\x7fELF\x02\x01\x01" + bytes(9) + struct.pack(
+        "<HHIQQQIHHHHHH", 2, 62, 1, 0x400078, 64, 0, 0, 64, 56, 1, 0, 0, 0)
+    segment = struct.pack("<IIQQQQQQ", 1, 5, 0, 0x400000, 0x400000, size, size, 0x1000)
+    with open(path, "wb") as file:
+        file.write(header + segment)
+        block = os.urandom(1 << 16)
+        for _ in range(size >> 16):
+            file.write(block)
+        file.truncate(size)
+    return path
+
+# The least time of five, and the peak memory, of a program that reads the file.
+def timed(words, path):
+    best = peak = None
+    for _ in range(5):
+        with open(path, "rb") as file:
+            begun = time.perf_counter()
+            child = subprocess.Popen(words, stdin=file, stdout=subprocess.DEVNULL)
+            _, status, usage = os.wait4(child.pid, 0)
+            spent = time.perf_counter() - begun
+        if status:
+            sys.exit(f"bench/elf.sh: {words[0]} ended with {status}")
+        best = spent if best is None else min(best, spent)
+        peak = usage.ru_maxrss * 1024
+    return best, peak
+
+size = mebibytes << 20
+path = write(size)
+spent, peak = timed([program], path)
+cat, _ = timed(["cat"], path)
+print(f"{mebibytes} MiB read in {spent:.3f} s, `cat` takes {cat:.3f} s: {spent / cat:.1f} times as long")
+print(f"peak memory {peak / 2**20:.1f} MiB, {peak / size:.2f} times the file, with the 1 to 2 MiB that every process takes")
+PY
