@@ -1,0 +1,5 @@
+pub mod ByteLemmas
+pub mod StageLemmas
+pub mod RowLemmas
+pub mod EncodingLemmas
+pub mod DecodeLemmas

@@ -1,0 +1,11 @@
+pub mod Fields
+pub mod RowForms
+pub mod Table
+pub mod Rows
+pub mod Prefixes
+pub mod Sizes
+pub mod Operands
+pub mod Instructions
+pub mod Spells
+pub mod Kinds
+pub mod Fits
