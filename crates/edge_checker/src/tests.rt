@@ -118,11 +118,11 @@ fn graph_with_two_edges(alloc: Global) -> Result<Graph, AllocError>
 }
 
 #[test]
-fn a_step_with_two_edges_breaks_cases(rt: HostRuntime) -> Result<(), Fail> {
+fn a_step_with_two_edges_is_not_built(rt: HostRuntime) -> Result<(), Fail> {
     let image = image(rt.alloc())?;
     let graph = graph_with_two_edges(rt.alloc())?;
     let answer = check(rt.alloc(), &image, &graph, None)?;
-    assert_eq!(rt; answer, broken_at(0x40_0078, Rule::Cases));
+    assert_eq!(rt; answer, Verdict::NotBuilt { site: 0x40_0078 });
     Ok(())
 }
 

@@ -121,6 +121,12 @@ s 400082 ret\nv 0\nr rax=-2\nc [rsp0;8]=ra\n",
             "invalid 400078 400078 0 0 register\n",
         ),
         (
+            b"\x66\x90\xc3",
+            "s 400078 step\nv 0\nc [rsp0;8]=ra\n> 40007a:0\ns 40007a ret\nv 0\nc [rsp0;8]=ra\n",
+            0,
+            "valid\n",
+        ),
+        (
             MOVE_RET,
             "s 400078 step\nv 0\nc [rsp0;8]=ra\n> 400081:0\n\
 s 400082 ret\nv 0\nr rax=-1\nc [rsp0;8]=ra\n",
