@@ -1,4 +1,6 @@
+pub mod Segments
 pub mod Image
-pub mod BaseFile
+pub mod At
+pub mod File
+pub mod Refusal
 pub mod Loaded
-pub mod Gives

@@ -1,17 +1,31 @@
--- The image of a file that is loaded whole, as a base file is.
-use Rattle.std.specs.Prelude.{ℕ, true, false, List, [], ◌∷◌, length}
+-- The image of a file (ELF-64, program header).
+use Rattle.std.specs.Prelude.{◌≡◌, ℕ, ◌==◌, ◌⊎◌, ◌≤◌, ◌+◌, ◌^◌, ◌<◌, Bool, not, List, map, length, take, drop, bit_and, Some, None, Result}
+use Rattle.elf_image.specs.declared.header.ProgramHeader.{ProgramHeader}
+use Rattle.elf_image.specs.declared.image.Segment.{Segment}
 use Rattle.elf_image.specs.declared.image.Image.{Image}
-use Rattle.elf_image.specs.BaseFile.{base_address, base_entry}
+use Rattle.elf_image.specs.File.{entry_of, loaded_of}
 
--- one segment of the file's bytes, executable and not writable
-abbrev pub loaded_whole : List ℕ → Image
-loaded_whole file = record {
-  entry = base_entry;
-  segs = record {
-    lo = base_address;
-    size = length file;
-    bytes = file;
-    exec = true;
-    write = false;
-  } ∷ [];
+-- a bit of p_flags is set
+abbrev pub has_flag : ℕ → ProgramHeader → Bool
+has_flag flag h = not (bit_and h.flags flag == 0)
+
+-- PF_X and PF_W
+abbrev pub executable_flag : ℕ
+executable_flag = 1
+
+abbrev pub writable_flag : ℕ
+writable_flag = 2
+
+-- p_memsz bytes at p_vaddr, of which the first are the p_filesz bytes of the file from p_offset on
+abbrev pub segment_of : List ℕ → ProgramHeader → Segment
+segment_of file h = record {
+  lo = h.address;
+  size = h.memory_size;
+  bytes = take h.file_size (drop h.offset file);
+  exec = has_flag executable_flag h;
+  write = has_flag writable_flag h;
 }
+
+-- the entry, and a segment for each header that loads something
+abbrev pub image_of : List ℕ → Image
+image_of file = record { entry = entry_of file; segs = map (segment_of file) (loaded_of file) }
