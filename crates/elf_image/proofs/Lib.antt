@@ -1,0 +1,5 @@
+pub mod ListLemmas
+pub mod AddressLemmas
+pub mod NumberLemmas
+pub mod TestLemmas
+pub mod LoadLemmas

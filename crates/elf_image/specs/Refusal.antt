@@ -21,7 +21,7 @@ abbrev pub magic : List ℕ
 magic = 0x7F ∷ codes "ELF"
 
 -- the length of the file, and e_ident: magic number, class, byte order and version
-abbrev pub identification_tests : List ℕ → Tests
+unfoldable pub identification_tests : List ℕ → Tests
 identification_tests file =
     (nat_lt (length file) 64, TooShort)
     ∷ (not (starts_with nat_eq file magic), BadMagic)
@@ -31,7 +31,7 @@ identification_tests file =
     ∷ []
 
 -- type, machine, and the place, size and number of the program headers
-abbrev pub header_tests : List ℕ → Tests
+unfoldable pub header_tests : List ℕ → Tests
 header_tests file =
     (not (type_of file == 2), NotExec)
     ∷ (not (machine_of file == 62), NotX8664)
@@ -57,7 +57,7 @@ abbrev pub overlaps : ProgramHeader × ProgramHeader → Bool
 overlaps pair = nat_lt pair.1.address (pair.0.address + pair.0.memory_size)
 
 -- the headers that load something, in a file of so many bytes
-abbrev pub segment_tests : ℕ → List ProgramHeader → Tests
+unfoldable pub segment_tests : ℕ → List ProgramHeader → Tests
 segment_tests size loaded =
     (length loaded == 0, NoLoad)
     ∷ (list_any (is_outside size) loaded, SegmentOutside)
@@ -67,7 +67,7 @@ segment_tests size loaded =
     ∷ []
 
 -- the lowest refusal that applies to a file
-abbrev pub refusal_of : List ℕ → Option ElfRefusal
+unfoldable pub refusal_of : List ℕ → Option ElfRefusal
 refusal_of file =
     first_refusal (
       identification_tests file

@@ -27,6 +27,7 @@ const X86_64: u16 = 62;
 const MOST_HEADERS: u16 = 64;
 
 /// What is wrong with the length of the file or its first bytes.
+#[tactic(auto, unfolding(crate::specs::Refusal::identification_tests))]
 pub fn identification_refusal(file: &[u8]) -> Option<ElfRefusal>
     ensures value { result ≡ first_refusal (identification_tests file.now) }
     ensures long { result ≡ None → 64 ≤ length file.now }
@@ -50,6 +51,7 @@ pub fn identification_refusal(file: &[u8]) -> Option<ElfRefusal>
 }
 
 /// What is wrong with the fields of the file header.
+#[tactic(auto, unfolding(crate::specs::Refusal::header_tests))]
 pub fn header_refusal(file: &[u8]) -> Option<ElfRefusal>
     requires { 64 ≤ length file.now }
     ensures value { result ≡ first_refusal (header_tests file.now) }
@@ -75,19 +77,20 @@ pub fn header_refusal(file: &[u8]) -> Option<ElfRefusal>
 }
 
 /// What is wrong with the headers that load something, in a file of `size` bytes.
+#[tactic(auto, unfolding(crate::specs::Refusal::segment_tests))]
 pub fn segment_refusal(size: u64, loaded: &[ProgramHeader]) -> Option<ElfRefusal>
     ensures { result ≡ first_refusal (segment_tests size loaded.now) }
 {
     if loaded.is_empty() {
         return Some(ElfRefusal::NoLoad);
     }
-    if loaded.iter().any(|header| header.is_outside(size)) {
+    if has_outside(size, loaded) {
         return Some(ElfRefusal::SegmentOutside);
     }
-    if loaded.iter().any(|header| header.wraps()) {
+    if has_wrapping(loaded) {
         return Some(ElfRefusal::SegmentWraps);
     }
-    if loaded.iter().any(|header| header.is_over_memory()) {
+    if has_over_memory(loaded) {
         return Some(ElfRefusal::FileOverMemory);
     }
     if is_unordered(loaded) {
@@ -96,7 +99,28 @@ pub fn segment_refusal(size: u64, loaded: &[ProgramHeader]) -> Option<ElfRefusal
     None
 }
 
-// Whether some header's segment begins before the end of the one before it.
+// Whether some file part ends past a file of `size` bytes.
+fn has_outside(size: u64, loaded: &[ProgramHeader]) -> bool
+    ensures { result ≡ list_any (is_outside size) loaded.now }
+{
+    loaded.iter().any(|header| header.is_outside(size))
+}
+
+// Whether some segment ends at 2^64 or past it.
+fn has_wrapping(loaded: &[ProgramHeader]) -> bool
+    ensures { result ≡ list_any wraps loaded.now }
+{
+    loaded.iter().any(|header| header.wraps())
+}
+
+// Whether some segment has more bytes in the file than in memory.
+fn has_over_memory(loaded: &[ProgramHeader]) -> bool
+    ensures { result ≡ list_any is_over_memory loaded.now }
+{
+    loaded.iter().any(|header| header.is_over_memory())
+}
+
+// Whether some segment begins before the end of the one before it.
 fn is_unordered(loaded: &[ProgramHeader]) -> bool
     ensures { result ≡ list_any overlaps (zip loaded.now (drop 1 loaded.now)) }
 {

@@ -77,11 +77,11 @@ impl Segment {
         requires high { n ≤ 8 }
         ensures { result ≡ little_number n (drop at (memory_of self.now)) }
     {
+        let bytes = self.bytes.as_slice();
+        let rest = &bytes[bytes.len().min(at as usize)..];
+        let known = rest.len().min(n as usize);
         let mut number = [0; 8];
-        if let Some(rest) = self.bytes.as_slice().get(at as usize..) {
-            let known = rest.len().min(n as usize);
-            number[..known].copy_from_slice(&rest[..known]);
-        }
+        number[..known].copy_from_slice(&rest[..known]);
         LittleEndian::read_uint(&number, n as usize)
     }
 }
@@ -124,10 +124,10 @@ impl Image {
         requires { 1 ≤ n }
         ensures { result ≡ covers_bytes self.now addr n }
     {
-        match self.segment_at(addr) {
-            Some(segment) => segment.holds(addr, n),
-            None => false,
-        }
+        let Some(segment) = self.segment_at(addr) else {
+            return false;
+        };
+        segment.holds(addr, n)
     }
 
     /// The little-endian number in the `n` bytes from `addr` on, where one segment that is not writable or is
