@@ -15,6 +15,10 @@ use Rattle.foxdec_main.specs.Ending.{Ending, file_refused}
 use Rattle.foxdec_main.specs.Outcome.{IsExecutable, IsRefusedFile}
 use Rattle.foxdec_main.specs.Taking.{IsOnlyOf}
 
+-- a test is not both
+pub true_not_false : (b : Bool) → b ≡ true → b ≡ false → ⊥
+true_not_false b is not = cc
+
 -- over the limit a file is refused for that
 pub over_limit : (bytes : List ℕ) → limit < length bytes → executable_refusal bytes ≡ Some TooLong
 unfolding executable_refusal

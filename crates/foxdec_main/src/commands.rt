@@ -91,7 +91,7 @@ fn executable_of<'a>(alloc: Global, name: &'a str, bytes: &[u8]) -> Result<Image
 {
     match read_elf(alloc, bytes) {
         Ok(image) => Ok(image),
-        Err(ElfRefusal::NoMemory) => Err(Refusal::OutOfMemory),
+        Err(refusal) if refusal == ElfRefusal::NoMemory => Err(Refusal::OutOfMemory),
         Err(refusal) => Err(Refusal::FileRefused(name, FileRefusal::Elf(refusal))),
     }
 }

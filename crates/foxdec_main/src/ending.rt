@@ -63,16 +63,24 @@ pub fn say_refusal<E: Sink>(err: &mut E, refusal: &Refusal<'_>)
 }
 
 // Says why a file is no executable.
-fn say_file_refused<'b, E: Sink>(err: &mut E, name: &'b [u8], refusal: FileRefusal)
+fn say_file_refused<E: Sink>(err: &mut E, name: &[u8], refusal: FileRefusal)
     ensures { Says (stream_of E.written E.faults E.stalls err.old err.new)
         (text_of (file_refused name.now refusal)) }
 {
     let mut digits = Buffer::new();
-    let number = digits.format(refusal.number()).as_bytes();
-    let refusal_name = refusal.name().as_bytes();
+    let number = digits.format(refusal.number());
+    say_file(err, name, refusal.name().as_bytes(), number.as_bytes());
+}
+
+// Says the refusal of a file, by its name and the digits of its number.
+fn say_file<'b, E: Sink>(err: &mut E, name: &'b [u8], refusal: &'b [u8], number: &'b [u8])
+    ensures { Says (stream_of E.written E.faults E.stalls err.old err.new)
+        (codes "foxdec: " ++ name.now ++ codes ": executable refused: " ++ refusal.now
+        ++ codes " (" ++ number.now ++ codes ")\n") }
+{
     put_pieces(
         err,
-        &[b"foxdec: ", name, b": executable refused: ", refusal_name, b" (", number, b")\n"],
+        &[b"foxdec: ", name, b": executable refused: ", refusal, b" (", number, b")\n"],
     );
 }
 
