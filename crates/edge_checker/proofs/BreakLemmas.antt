@@ -8,14 +8,14 @@ use Rattle.hoare_graph.specs.declared.graph.Site.{Site}
 use Rattle.hoare_graph.specs.declared.graph.Function.{Function}
 use Rattle.hoare_graph.specs.declared.verdict.Rule.{Rule}
 use Rattle.edge_checker.specs.declared.instruction.Instruction.{Instruction}
-use Rattle.edge_checker.specs.Instruction.{instruction_at}
+use Rattle.edge_checker.specs.Instruction.{built_at}
 use Rattle.edge_checker.specs.Rules.{vertex_at}
 use Rattle.edge_checker.specs.Breaks.{first, unless, broken, edge_rules, edge_breaks, step_breaks, site_breaks, function_breaks}
 use Rattle.edge_checker.specs.Tests.{begins}
 
 -- a function whose entry holds breaks what its sites break
-pub function_breaks-begins : (image : Image) (f : Function) → begins (vertex_at f (f.entry, 0)) ≡ true → function_breaks image f ≡ flat_map (λ s. site_breaks f s (instruction_at image s.addr)) f.sites
-function_breaks-begins image f e = ap (λ b. map (broken f.entry f.entry 0 0) (unless b Rule.Entry) ++ flat_map (λ s. site_breaks f s (instruction_at image s.addr)) f.sites) e
+pub function_breaks-begins : (image : Image) (f : Function) → begins (vertex_at f (f.entry, 0)) ≡ true → function_breaks image f ≡ flat_map (λ s. site_breaks f s (built_at image s)) f.sites
+function_breaks-begins image f e = ap (λ b. map (broken f.entry f.entry 0 0) (unless b Rule.Entry) ++ flat_map (λ s. site_breaks f s (built_at image s)) f.sites) e
 
 -- the first element of a list is the first of its images
 first-map : {A B : Type 0} (g : A → B) (xs : List A) → first (map g xs ++ []) ≡ option_map g (first xs)

@@ -10,8 +10,8 @@ use Rattle.hoare_graph.specs.declared.graph.Kind.TheVariants.{Step, Return}
 use Rattle.hoare_graph.specs.declared.graph.Pred.{Pred}
 use Rattle.hoare_graph.specs.declared.verdict.Rule.{Rule}
 use Rattle.hoare_graph.specs.Text.{is_entry}
-use Rattle.edge_checker.specs.declared.instruction.Instruction.{Instruction}
-use Rattle.edge_checker.specs.declared.instruction.Instruction.TheVariants.{Nop, Ret, MoveImmediate}
+use Rattle.edge_checker.specs.declared.instruction.Effect.{Effect}
+use Rattle.edge_checker.specs.declared.instruction.Effect.TheVariants.{Nop, Ret, MoveImmediate}
 use Rattle.edge_checker.specs.Entails.{all_registers, register_of, HasValue, Entails, same_term, has_value, has_registers, missing_of}
 use Rattle.edge_checker.specs.Rules.{Keeps, Fits}
 use Rattle.edge_checker.specs.Tests.{keeps, fits}
@@ -57,7 +57,7 @@ keeps-Decides kept p =
       λ holds. both.1 (entries.1 holds.registers, cell.1 holds.cell),
     )
 
-pub fits-Decides : (kind : Kind) (i : Instruction) → Decides (fits kind i) (Fits kind i)
+pub fits-Decides : (kind : Kind) (i : Effect) → Decides (fits kind i) (Fits kind i)
 fits-Decides Step Nop = (λ e. (λ a. cc, λ a. cc), λ e. refl)
 fits-Decides Step Ret = (λ e. absurd (cc), λ e. let is = e.1 refl in cc)
 fits-Decides Step (MoveImmediate register value) = (λ e. (λ a. cc, λ a. cc), λ e. refl)

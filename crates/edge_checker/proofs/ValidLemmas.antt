@@ -16,7 +16,7 @@ use Rattle.hoare_graph.specs.declared.verdict.Broken.{Broken}
 use Rattle.hoare_graph.specs.declared.verdict.Verdict.TheVariants.{Valid}
 use Rattle.hoare_graph.specs.Parts.{Each}
 use Rattle.edge_checker.specs.declared.instruction.Instruction.{Instruction}
-use Rattle.edge_checker.specs.Instruction.{instruction_at}
+use Rattle.edge_checker.specs.Instruction.{built_at}
 use Rattle.edge_checker.specs.Step.{next_address, after}
 use Rattle.edge_checker.specs.Entails.{Entails, all_registers, missing_of}
 use Rattle.edge_checker.specs.Rules.{preserved, vertex_at, Keeps, EdgeHolds, VertexHolds, Fits, SiteHolds, FunctionHolds, IsValid}
@@ -48,10 +48,10 @@ target-empty p (Some v) = (
 
 edge-empty : (f : Function) (s : Site) (i : Instruction) (p : Pred) (edge : ℕ × ℕ) → (edge_rules f s i p edge ≡ []) ↔ EdgeHolds f s i p edge
 edge-empty f s i p edge =
-    let parts = append-empty (unless (eqb edge.0 (next_address s.addr i)) Rule.Address) (target_rules (after i p) (vertex_at f edge)) in
+    let parts = append-empty (unless (eqb edge.0 (next_address s.addr i)) Rule.Address) (target_rules (after i.effect p) (vertex_at f edge)) in
     let address = unless-empty (eqb edge.0 (next_address s.addr i)) Rule.Address in
     let same = Decides-eqb edge.0 (next_address s.addr i) in
-    let target = target-empty (after i p) (vertex_at f edge) in (
+    let target = target-empty (after i.effect p) (vertex_at f edge) in (
       λ e. let found = target.0 (parts.0 e).1 in
           record { address = same.0 (address.0 (parts.0 e).0); target = found.0; found = found.1; entailed = found.2 },
       λ holds. parts.1 (address.1 (same.1 holds.address), target.1 (holds.target, holds.found, holds.entailed)),
@@ -75,19 +75,19 @@ vertex-empty Return f s i n v =
     (λ e. holds.0 (test.0 (rules.0 e)), λ h. rules.1 (test.1 (holds.1 h)))
 
 -- a site whose instruction is known
-built-empty : (f : Function) (s : Site) (i : Instruction) → (site_breaks f s (Some i) ≡ []) ↔ (Fits s.kind i × Each (VertexHolds s.kind f s i) s.vertices)
+built-empty : (f : Function) (s : Site) (i : Instruction) → (site_breaks f s (Some i) ≡ []) ↔ (Fits s.kind i.effect × Each (VertexHolds s.kind f s i) s.vertices)
 built-empty f s i =
-    let parts = rule_then (broken f.entry s.addr 0 0) (fits s.kind i) Rule.Kind (flat_map (vertex_breaks f s i) (enumerate_from 0 s.vertices)) in
-    let kind = fits-Decides s.kind i in
+    let parts = rule_then (broken f.entry s.addr 0 0) (fits s.kind i.effect) Rule.Kind (flat_map (vertex_breaks f s i) (enumerate_from 0 s.vertices)) in
+    let kind = fits-Decides s.kind i.effect in
     let vertices = numbered-empty (VertexHolds s.kind f s i) (vertex_breaks f s i) (λ n v. vertex-empty s.kind f s i n v) 0 s.vertices in
     (λ e. (kind.0 (parts.0 e).0, vertices.0 (parts.0 e).1), λ both. parts.1 (kind.1 both.0, vertices.1 both.1))
 
-site-empty : (image : Image) (f : Function) (s : Site) (o : Option Instruction) → instruction_at image s.addr ≡ o → ((unbuilt_at s.addr o ≡ []) × (site_breaks f s o ≡ [])) ↔ SiteHolds image f s
+site-empty : (image : Image) (f : Function) (s : Site) (o : Option Instruction) → built_at image s ≡ o → ((unbuilt_at s.addr o ≡ []) × (site_breaks f s o ≡ [])) ↔ SiteHolds image f s
 site-empty image f s None e = (λ empty. absurd (cc empty.0), λ holds. absurd (cc (e, holds.built)))
 site-empty image f s (Some i) e = (
   λ empty. let holds = (built-empty f s i).0 empty.1 in record { instruction = i; built = e; fits = holds.0; vertices = holds.1 },
   λ holds. let same : holds.instruction ≡ i = cc (e, holds.built) in
-      (refl, (built-empty f s i).1 (subst (λ (j : Instruction). Fits s.kind j × Each (VertexHolds s.kind f s j) s.vertices) same (holds.fits, holds.vertices))),
+      (refl, (built-empty f s i).1 (subst (λ (j : Instruction). Fits s.kind j.effect × Each (VertexHolds s.kind f s j) s.vertices) same (holds.fits, holds.vertices))),
 )
 
 -- the vertex 0 at the entry
@@ -100,9 +100,9 @@ entry-empty (Some v) = (
 
 function-empty : (image : Image) (f : Function) → ((unbuilt_in image f ≡ []) × (function_breaks image f ≡ [])) ↔ FunctionHolds image f
 function-empty image f =
-    let parts = rule_then (broken f.entry f.entry 0 0) (begins (vertex_at f (f.entry, 0))) Rule.Entry (flat_map (λ s. site_breaks f s (instruction_at image s.addr)) f.sites) in
+    let parts = rule_then (broken f.entry f.entry 0 0) (begins (vertex_at f (f.entry, 0))) Rule.Entry (flat_map (λ s. site_breaks f s (built_at image s)) f.sites) in
     let entry = entry-empty (vertex_at f (f.entry, 0)) in
-    let sites = both-empty (SiteHolds image f) (λ s. unbuilt_at s.addr (instruction_at image s.addr)) (λ s. site_breaks f s (instruction_at image s.addr)) (λ s. site-empty image f s (instruction_at image s.addr) refl) f.sites in (
+    let sites = both-empty (SiteHolds image f) (λ s. unbuilt_at s.addr (built_at image s)) (λ s. site_breaks f s (built_at image s)) (λ s. site-empty image f s (built_at image s) refl) f.sites in (
       λ e. let found = entry.0 (parts.0 e.1).0 in
           record { entry = record { vertex = found.0; found = found.1; pred = found.2 }; sites = sites.0 (e.0, (parts.0 e.1).1) },
       λ holds. let all = sites.1 holds.sites in

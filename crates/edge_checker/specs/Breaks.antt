@@ -15,7 +15,7 @@ use Rattle.hoare_graph.specs.declared.verdict.Broken.{Broken}
 use Rattle.hoare_graph.specs.declared.verdict.Verdict.{Verdict}
 use Rattle.hoare_graph.specs.declared.verdict.Verdict.TheVariants.{Valid, Invalid, NotBuilt}
 use Rattle.edge_checker.specs.declared.instruction.Instruction.{Instruction}
-use Rattle.edge_checker.specs.Instruction.{instruction_at}
+use Rattle.edge_checker.specs.Instruction.{built_at}
 use Rattle.edge_checker.specs.Step.{next_address, after}
 use Rattle.edge_checker.specs.Entails.{missing_of}
 use Rattle.edge_checker.specs.Rules.{preserved, vertex_at}
@@ -43,7 +43,7 @@ target_rules p (Some target) = option_to_list (missing_of p target.pred)
 -- the rules that an edge breaks from a predicate on
 abbrev pub edge_rules : Function → Site → Instruction → Pred → ℕ × ℕ → List Rule
 edge_rules f s i p edge =
-    unless (edge.0 == next_address s.addr i) Rule.Address ++ target_rules (after i p) (vertex_at f edge)
+    unless (edge.0 == next_address s.addr i) Rule.Address ++ target_rules (after i.effect p) (vertex_at f edge)
 
 -- the same with their place, for a vertex with its number and an edge with its case
 abbrev pub edge_breaks : Function → Site → Instruction → ℕ × Vertex → ℕ × (ℕ × ℕ) → List Broken
@@ -74,27 +74,27 @@ vertex_breaks f s i v = breaks_of_kind s.kind f s i v
 abbrev pub site_breaks : Function → Site → Option Instruction → List Broken
 site_breaks f s None = []
 site_breaks f s (Some i) =
-    map (broken f.entry s.addr 0 0) (unless (fits s.kind i) Rule.Kind)
+    map (broken f.entry s.addr 0 0) (unless (fits s.kind i.effect) Rule.Kind)
     ++ flat_map (vertex_breaks f s i) (enumerate_from 0 s.vertices)
 
 -- what a function breaks, its own rule first, which names the entry as its site, then its sites
 abbrev pub function_breaks : Image → Function → List Broken
 function_breaks image f =
     map (broken f.entry f.entry 0 0) (entry_rules f)
-    ++ flat_map (λ s. site_breaks f s (instruction_at image s.addr)) f.sites
+    ++ flat_map (λ s. site_breaks f s (built_at image s)) f.sites
 
 -- what a graph breaks, function by function
 abbrev pub breaks_of : Image → Graph → List Broken
 breaks_of image g = flat_map (function_breaks image) g.functions
 
--- the address, where the bytes there spell no instruction that is built
+-- the address of a site, where the site is not built
 abbrev pub unbuilt_at : ℕ → Option Instruction → List ℕ
 unbuilt_at addr None = addr ∷ []
 unbuilt_at addr (Some i) = []
 
 -- the addresses of such sites in a function
 abbrev pub unbuilt_in : Image → Function → List ℕ
-unbuilt_in image f = flat_map (λ s. unbuilt_at s.addr (instruction_at image s.addr)) f.sites
+unbuilt_in image f = flat_map (λ s. unbuilt_at s.addr (built_at image s)) f.sites
 
 -- and in a graph
 abbrev pub unbuilt_of : Image → Graph → List ℕ

@@ -1,40 +1,56 @@
--- The instructions that are built, as bytes of code (Intel SDM volume 2: MOV, NOP, RET).
-use Rattle.std.specs.Prelude.{ℕ, ◌+◌, ◌-◌, ◌*◌, ◌%◌, ◌==◌, ◌&&◌, Bool, List, [], ◌∷◌, length, take, Some, None, nat_le, if◌then◌else◌}
+-- The instructions that are built: what the decoder gives at a site, and what it does.
+use Rattle.std.specs.Prelude.{ℕ, ◌==◌, ◌&&◌, Bool, true, length, List, Some, None, if◌then◌else◌, option_and_then}
+use Rattle.std.specs.Option.{option_map}
+use Rattle.std.specs.List.{list_all}
 use Rattle.std.specs.declared.option.Option.{Option}
-use Rattle.std.specs.Int.{w64, from_le_bytes, is_in_range}
+use Rattle.bits_core.specs.declared.width.Width.{Width}
+use Rattle.bits_core.specs.declared.width.Width.TheVariants.{W64}
+use Rattle.x86_meaning.specs.declared.instr.Op.{Op}
+use Rattle.x86_meaning.specs.declared.instr.Op.TheVariants as op
+use Rattle.x86_meaning.specs.declared.instr.Operand.{Operand}
+use Rattle.x86_meaning.specs.declared.instr.Operand.TheVariants.{Reg, Imm}
+use Rattle.x86_meaning.specs.declared.instr.Instr.{Instr}
+use Rattle.x86_decode.specs.Reading.{first_instr}
 use Rattle.elf_image.specs.declared.image.Image.{Image}
 use Rattle.elf_image.specs.Image.{code_of}
+use Rattle.hoare_graph.specs.declared.graph.Kind.{Kind}
+use Rattle.hoare_graph.specs.declared.graph.Kind.TheVariants.{Step, Return}
+use Rattle.hoare_graph.specs.declared.graph.Vertex.{Vertex}
+use Rattle.hoare_graph.specs.declared.graph.Site.{Site}
+use Rattle.edge_checker.specs.declared.instruction.Effect.{Effect}
+use Rattle.edge_checker.specs.declared.instruction.Effect.TheVariants.{Nop, Ret, MoveImmediate}
 use Rattle.edge_checker.specs.declared.instruction.Instruction.{Instruction}
-use Rattle.edge_checker.specs.declared.instruction.Instruction.TheVariants.{Nop, Ret, MoveImmediate}
 
--- REX.W with any of REX.R, REX.X and REX.B
-abbrev pub is_wide_prefix : ℕ → Bool
-is_wide_prefix byte = is_in_range 0x48 0x4F byte
+-- the instruction at an address, as the decoder reads it
+abbrev pub instruction_at : Image → ℕ → Option Instr
+instruction_at image addr = first_instr addr (code_of image addr)
 
--- the opcode B8+r
-abbrev pub is_move_opcode : ℕ → Bool
-is_move_opcode byte = is_in_range 0xB8 0xBF byte
+-- a move of 64 bits of an immediate to a register
+abbrev pub move_of : Width → Operand → Operand → Option Effect
+move_of W64 (Reg register) (Imm value) = Some (MoveImmediate register value)
+move_of width dst src = None
 
--- the move that stands behind the prefix: the register is r with REX.B as its bit 3
-abbrev pub move_of : ℕ → List ℕ → Option Instruction
-move_of prefix [] = None
-move_of prefix (opcode ∷ immediate) =
-    if is_wide_prefix prefix && is_move_opcode opcode && nat_le 8 (length immediate)
-    then Some (MoveImmediate (opcode - 0xB8 + 8 * (prefix % 2)) (from_le_bytes w64 (take 8 immediate)))
-    else None
+-- what an instruction of an operation does, where it is built: a nop, a return or such a move
+abbrev pub effect_for : Op → Instr → Option Effect
+effect_for op.Nop i = Some Nop
+effect_for op.Ret i = Some Ret
+effect_for op.Mov i = move_of i.width i.dst i.src
+effect_for _ i = None
 
--- the instruction that the bytes begin with, where it is built
-abbrev pub instruction_of : List ℕ → Option Instruction
-instruction_of [] = None
-instruction_of (byte ∷ bytes) =
-    if byte == 0x90 then Some Nop else (if byte == 0xC3 then Some Ret else move_of byte bytes)
+-- the instruction with its number of bytes, where it is built
+abbrev pub built_of : Instr → Option Instruction
+built_of i = option_map (λ effect. record { len = i.len; effect = effect }) (effect_for i.op i)
 
--- the instruction at an address
-abbrev pub instruction_at : Image → ℕ → Option Instruction
-instruction_at image addr = instruction_of (code_of image addr)
+-- the vertex of a step has one edge
+abbrev pub has_one_edge : Kind → Vertex → Bool
+has_one_edge Step v = length v.out == 1
+has_one_edge Return v = true
 
--- its number of bytes
-abbrev pub size_of : Instruction → ℕ
-size_of Nop = 1
-size_of Ret = 1
-size_of (MoveImmediate register value) = 10
+-- a site has one vertex, and at a step one edge
+abbrev pub has_one_case : Site → Bool
+has_one_case s = (length s.vertices == 1) && list_all (has_one_edge s.kind) s.vertices
+
+-- the instruction at a site, where the site is built
+abbrev pub built_at : Image → Site → Option Instruction
+built_at image s =
+    if has_one_case s then option_and_then built_of (instruction_at image s.addr) else None

@@ -13,8 +13,9 @@ use Rattle.hoare_graph.specs.declared.graph.Graph.{Graph}
 use Rattle.hoare_graph.specs.Parts.{Each}
 use Rattle.hoare_graph.specs.Lookup.{site_at}
 use Rattle.edge_checker.specs.declared.instruction.Instruction.{Instruction}
-use Rattle.edge_checker.specs.declared.instruction.Instruction.TheVariants.{Ret}
-use Rattle.edge_checker.specs.Instruction.{instruction_at}
+use Rattle.edge_checker.specs.declared.instruction.Effect.{Effect}
+use Rattle.edge_checker.specs.declared.instruction.Effect.TheVariants.{Ret}
+use Rattle.edge_checker.specs.Instruction.{built_at}
 use Rattle.edge_checker.specs.Step.{next_address, after}
 use Rattle.edge_checker.specs.Entails.{Entails, all_registers, register_of}
 
@@ -47,7 +48,7 @@ pub record EdgeHolds (f : Function) (s : Site) (i : Instruction) (p : Pred) (edg
   pub address : edge.0 ≡ next_address s.addr i
   pub target : Vertex
   pub found : vertex_at f edge ≡ Some target
-  pub entailed : Entails (after i p) target.pred
+  pub entailed : Entails (after i.effect p) target.pred
 
 -- a step has one case and an edge for it
 pub record Steps (f : Function) (s : Site) (i : Instruction) (v : Vertex) : Type 0 where
@@ -60,14 +61,14 @@ VertexHolds Step f s i v = Steps f s i v
 VertexHolds Return f s i v = Keeps preserved v.pred
 
 -- a step is at an instruction that goes on, a return at one that returns
-abbrev pub Fits : Kind → Instruction → Type 0
-Fits kind i = (kind ≡ Return) ↔ (i ≡ Ret)
+abbrev pub Fits : Kind → Effect → Type 0
+Fits kind effect = (kind ≡ Return) ↔ (effect ≡ Ret)
 
--- an instruction that is built stands at the site, of its kind, and each vertex holds
+-- the site is built, its instruction is of its kind, and each vertex holds
 pub record SiteHolds (image : Image) (f : Function) (s : Site) : Type 0 where
   pub instruction : Instruction
-  pub built : instruction_at image s.addr ≡ Some instruction
-  pub fits : Fits s.kind instruction
+  pub built : built_at image s ≡ Some instruction
+  pub fits : Fits s.kind instruction.effect
   pub vertices : Each (VertexHolds s.kind f s instruction) s.vertices
 
 -- the entry holds, and each site

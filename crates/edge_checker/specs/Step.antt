@@ -2,16 +2,16 @@
 use Rattle.std.specs.Prelude.{ℕ, ◌+◌, ◌%◌, ◌^◌, Some, slice_set}
 use Rattle.hoare_graph.specs.declared.graph.Term.TheVariants.{Number}
 use Rattle.hoare_graph.specs.declared.graph.Pred.{Pred}
+use Rattle.edge_checker.specs.declared.instruction.Effect.{Effect}
+use Rattle.edge_checker.specs.declared.instruction.Effect.TheVariants.{Nop, Ret, MoveImmediate}
 use Rattle.edge_checker.specs.declared.instruction.Instruction.{Instruction}
-use Rattle.edge_checker.specs.declared.instruction.Instruction.TheVariants.{Nop, Ret, MoveImmediate}
-use Rattle.edge_checker.specs.Instruction.{size_of}
 
 -- the address of the next instruction
 abbrev pub next_address : ℕ → Instruction → ℕ
-next_address addr i = (addr + size_of i) % 2 ^ 64
+next_address addr i = (addr + i.len) % 2 ^ 64
 
 -- the predicate after the instruction; a return is no step, and changes none of it
-abbrev pub after : Instruction → Pred → Pred
+abbrev pub after : Effect → Pred → Pred
 after Nop p = p
 after Ret p = p
 after (MoveImmediate register value) p =

@@ -8,8 +8,8 @@ use Rattle.hoare_graph.specs.declared.graph.Kind.TheVariants.{Step, Return}
 use Rattle.hoare_graph.specs.declared.graph.Pred.{Pred}
 use Rattle.hoare_graph.specs.declared.graph.Vertex.{Vertex}
 use Rattle.hoare_graph.specs.Text.{is_entry}
-use Rattle.edge_checker.specs.declared.instruction.Instruction.{Instruction}
-use Rattle.edge_checker.specs.declared.instruction.Instruction.TheVariants.{Nop, Ret, MoveImmediate}
+use Rattle.edge_checker.specs.declared.instruction.Effect.{Effect}
+use Rattle.edge_checker.specs.declared.instruction.Effect.TheVariants.{Nop, Ret, MoveImmediate}
 use Rattle.edge_checker.specs.Entails.{all_registers, register_of, has_value}
 
 -- the registers have their entry symbols, and the cell the return address
@@ -22,7 +22,7 @@ begins None = false
 begins (Some v) = keeps all_registers v.pred
 
 -- a step is at no return, a return at one
-abbrev pub fits : Kind → Instruction → Bool
+abbrev pub fits : Kind → Effect → Bool
 fits Step Nop = true
 fits Step Ret = false
 fits Step (MoveImmediate register value) = true

@@ -17,8 +17,8 @@ use thiserror::Error;
 #[error("out of memory")]
 pub struct NoMemory;
 
-/// Checks a graph against an executable: `NotBuilt` with the first site, in the order of the file, whose instruction
-/// is not built yet; else `Invalid` with the first rule that is broken and its place; else `Valid`, exactly where
+/// Checks a graph against an executable: `NotBuilt` with the first site, in the order of the file, that is not built
+/// yet; else `Invalid` with the first rule that is broken and its place; else `Valid`, exactly where
 /// every rule holds. There is no check against a policy yet. So far the check takes no memory.
 pub fn check(
     alloc: Global,

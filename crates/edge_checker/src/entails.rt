@@ -6,7 +6,7 @@ ghost use Rattle.edge_checker.specs.Step.{after};
 ghost use Rattle.edge_checker.specs.Entails.{register_of, same_term, has_value, has_registers, missing_of};
 ghost use Rattle.edge_checker.specs.Tests.{keeps};
 
-use crate::instruction::Instruction;
+use crate::instruction::Effect;
 use hoare_graph::{Pred, Rule, Term};
 
 /// The numbers of the sixteen registers.
@@ -23,10 +23,10 @@ pub fn keeps_entry(p: &Pred, kept: &[u8]) -> bool
 }
 
 /// The first conjunct of `q` that does not hold after the instruction where `p` holds before it.
-pub fn first_missing(instruction: Instruction, p: &Pred, q: &Pred) -> Option<Rule>
-    ensures { result ≡ missing_of (after instruction p.now) q.now }
+pub fn first_missing(effect: Effect, p: &Pred, q: &Pred) -> Option<Rule>
+    ensures { result ≡ missing_of (after effect p.now) q.now }
 {
-    if !knows_registers(instruction, p, q) {
+    if !knows_registers(effect, p, q) {
         return Some(Rule::Register);
     }
     if !knows(p.cell, q.cell) {
@@ -36,10 +36,10 @@ pub fn first_missing(instruction: Instruction, p: &Pred, q: &Pred) -> Option<Rul
 }
 
 // Whether each register that `q` knows has the same term after the instruction.
-fn knows_registers(instruction: Instruction, p: &Pred, q: &Pred) -> bool
-    ensures { result ≡ has_registers (after instruction p.now) q.now }
+fn knows_registers(effect: Effect, p: &Pred, q: &Pred) -> bool
+    ensures { result ≡ has_registers (after effect p.now) q.now }
 {
-    REGISTERS.iter().all(|r| knows(register_after(instruction, p, *r), register(q, *r)))
+    REGISTERS.iter().all(|r| knows(register_after(effect, p, *r), register(q, *r)))
 }
 
 // Whether what is asked for, if anything, is known to be that term.
@@ -79,11 +79,11 @@ fn register(p: &Pred, r: u8) -> Option<Term>
 }
 
 // What the register has after the instruction.
-fn register_after(instruction: Instruction, p: &Pred, r: u8) -> Option<Term>
-    ensures { result ≡ register_of (after instruction p.now) r }
+fn register_after(effect: Effect, p: &Pred, r: u8) -> Option<Term>
+    ensures { result ≡ register_of (after effect p.now) r }
 {
-    match instruction {
-        Instruction::MoveImmediate { register, value }
+    match effect {
+        Effect::MoveImmediate { register, value }
             if register == r && (r as usize) < p.regs.len() => { Some(Term::Number(value)) }
         _ => register(p, r),
     }

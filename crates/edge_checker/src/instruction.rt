@@ -1,64 +1,107 @@
 // The instructions that are built (Intel SDM volume 2: MOV, NOP, RET).
-ghost use Rattle.std.specs.Prelude.{◌≡◌, ℕ, ◌∷◌};
-ghost use Rattle.edge_checker.specs.Instruction.{instruction_of, move_of, size_of};
+ghost use Rattle.std.specs.Prelude.{◌≡◌, ℕ};
+ghost use Rattle.std.specs.List.{list_all};
+ghost use Rattle.edge_checker.specs.Instruction.{move_of, effect_for, built_of, has_one_edge, has_one_case, built_at};
 ghost use Rattle.edge_checker.specs.Step.{next_address};
 
-/// An instruction that is built.
+use bits_core::Width;
+use elf_image::Image;
+use hoare_graph::{Kind, Site, Vertex};
+use x86_decode::decode;
+use x86_meaning::{Instr, Op, Operand};
+
+/// What an instruction that is built does.
 #[derive(Clone, Copy, Debug, PartialEq, Eq)]
-pub enum Instruction {
-    /// `nop`, the byte 90.
+pub enum Effect {
+    /// Nothing: `nop`, whatever its spelling.
     Nop,
-    /// `ret`, the byte C3.
+    /// It returns: `ret`.
     Ret,
-    /// `mov` of a 64-bit immediate to the register with the number: REX.W, B8+r and eight bytes.
+    /// `mov` of a 64-bit immediate to the register with the number.
     MoveImmediate { register: u8, value: u64 },
 }
 
-/// The instruction that the bytes begin with; None where it is not built.
-pub fn decode(code: &[u8]) -> Option<Instruction>
-    ensures { result ≡ instruction_of code.now }
+/// An instruction that is built: its number of bytes, and what it does.
+#[derive(Clone, Copy, Debug, PartialEq, Eq)]
+pub struct Instruction {
+    pub len: u8,
+    pub effect: Effect,
+}
+
+/// The instruction at the site; None where the site is not built.
+pub fn instruction_at(image: &Image, s: &Site) -> Option<Instruction>
+    ensures { result ≡ built_at image.now s.now }
 {
-    let [byte, bytes @ ..] = code else {
+    if !has_one_case(s) {
         return None;
-    };
-    match *byte {
-        0x90 => Some(Instruction::Nop),
-        0xc3 => Some(Instruction::Ret),
-        prefix => decode_move(prefix, bytes),
+    }
+    match decode(image.code_at(s.addr), s.addr) {
+        Some(decoded) => built(decoded),
+        None => None,
     }
 }
 
-// The move whose opcode and immediate stand behind the prefix.
-fn decode_move(prefix: u8, bytes: &[u8]) -> Option<Instruction>
-    ensures { result ≡ move_of prefix bytes.now }
+// Whether there is one vertex, and at a step one edge.
+fn has_one_case(s: &Site) -> bool
+    ensures { result ≡ has_one_case s.now }
 {
-    let [opcode, immediate @ ..] = bytes else {
-        return None;
-    };
-    if prefix < 0x48 || prefix > 0x4f || *opcode < 0xb8 || *opcode > 0xbf {
-        return None;
+    s.vertices.len() == 1 && have_one_edge(s.kind, s.vertices.as_slice())
+}
+
+// Whether each vertex has one edge, at a step.
+fn have_one_edge(kind: Kind, vertices: &[Vertex]) -> bool
+    ensures { result ≡ list_all (has_one_edge kind) vertices.now }
+{
+    vertices.iter().all(|v| has_one_edge(kind, v))
+}
+
+fn has_one_edge(kind: Kind, v: &Vertex) -> bool
+    ensures { result ≡ has_one_edge kind v.now }
+{
+    match kind {
+        Kind::Step => v.out.len() == 1,
+        Kind::Return => true,
     }
-    let Some((number, _)) = immediate.split_first_chunk::<8>() else {
-        return None;
-    };
-    Some(Instruction::MoveImmediate {
-        register: *opcode - 0xb8 + 8 * (prefix % 2),
-        value: u64::from_le_bytes(*number),
-    })
+}
+
+fn built(decoded: Instr) -> Option<Instruction>
+    ensures { result ≡ built_of decoded }
+{
+    match built_effect(decoded) {
+        Some(effect) => Some(Instruction {
+            len: decoded.len,
+            effect,
+        }),
+        None => None,
+    }
+}
+
+fn built_effect(decoded: Instr) -> Option<Effect>
+    ensures { result ≡ effect_for decoded.op decoded }
+{
+    match decoded.op {
+        Op::Nop => Some(Effect::Nop),
+        Op::Ret => Some(Effect::Ret),
+        Op::Mov => move_effect(decoded.width, decoded.dst, decoded.src),
+        _ => None,
+    }
+}
+
+// A move of 64 bits of an immediate to a register.
+fn move_effect(width: Width, dst: Operand, src: Operand) -> Option<Effect>
+    ensures { result ≡ move_of width dst src }
+{
+    match (width, dst, src) {
+        (Width::W64, Operand::Reg(register), Operand::Imm(value)) => {
+            Some(Effect::MoveImmediate { register, value })
+        }
+        _ => None,
+    }
 }
 
 /// The address of the next instruction, modulo 2^64.
 pub fn address_after(addr: u64, instruction: Instruction) -> u64
     ensures { result ≡ next_address addr instruction }
 {
-    addr.wrapping_add(size(instruction))
-}
-
-fn size(instruction: Instruction) -> u64
-    ensures { result ≡ size_of instruction }
-{
-    match instruction {
-        Instruction::Nop | Instruction::Ret => 1,
-        Instruction::MoveImmediate { .. } => 10,
-    }
+    addr.wrapping_add(instruction.len as u64)
 }

@@ -5,11 +5,11 @@ ghost use Rattle.hoare_graph.specs.Parts.{Ascends, Each};
 ghost use Rattle.hoare_graph.specs.WellFormed.{IsSite, IsFunction};
 ghost use Rattle.edge_checker.specs.Breaks.{first, vertex_breaks, site_breaks, function_breaks, unbuilt_at, unbuilt_in};
 ghost use Rattle.edge_checker.specs.Tests.{begins, fits};
-ghost use Rattle.edge_checker.specs.Instruction.{instruction_at};
+ghost use Rattle.edge_checker.specs.Instruction.{built_at};
 ghost use Rattle.edge_checker.specs.Rules.{vertex_at};
 
 use crate::entails::{REGISTERS, keeps_entry};
-use crate::instruction::{Instruction, decode};
+use crate::instruction::{Effect, Instruction, instruction_at};
 use crate::places::vertex_there;
 use crate::vertices::vertex_break;
 use elf_image::Image;
@@ -38,12 +38,12 @@ pub fn function_break(image: &Image, f: &Function) -> Option<Broken>
     None
 }
 
-/// The first site of the function whose instruction is not built.
+/// The first site of the function that is not built.
 pub fn unbuilt_site(image: &Image, f: &Function) -> Option<u64>
     ensures { result ≡ first (unbuilt_in image.now f.now) }
 {
     for site in f.sites.as_slice() {
-        let unbuilt = unbuilt_address(image, site.addr);
+        let unbuilt = unbuilt_address(image, site);
         if unbuilt.is_some() {
             return unbuilt;
         }
@@ -51,13 +51,13 @@ pub fn unbuilt_site(image: &Image, f: &Function) -> Option<u64>
     None
 }
 
-// The address, where the instruction there is not built.
-fn unbuilt_address(image: &Image, addr: u64) -> Option<u64>
-    ensures { result ≡ first (unbuilt_at addr (instruction_at image.now addr)) }
+// The address, where the site is not built.
+fn unbuilt_address(image: &Image, s: &Site) -> Option<u64>
+    ensures { result ≡ first (unbuilt_at s.now.addr (built_at image.now s.now)) }
 {
-    match decode(image.code_at(addr)) {
+    match instruction_at(image, s) {
         Some(_) => None,
-        None => Some(addr),
+        None => Some(s.addr),
     }
 }
 
@@ -76,12 +76,12 @@ fn has_entry_vertex(f: &Function) -> bool
 fn site_break(image: &Image, f: &Function, s: &Site) -> Option<Broken>
     requires sites { Ascends (map (λ s. s.addr) f.now.sites) }
     requires count { length s.now.vertices < 2 ^ 32 }
-    ensures { result ≡ first (site_breaks f.now s.now (instruction_at image.now s.now.addr)) }
+    ensures { result ≡ first (site_breaks f.now s.now (built_at image.now s.now)) }
 {
-    let Some(instruction) = decode(image.code_at(s.addr)) else {
+    let Some(instruction) = instruction_at(image, s) else {
         return None;
     };
-    if fits_kind(s.kind, instruction) {
+    if fits_kind(s.kind, instruction.effect) {
         return first_vertex_break(f, s, instruction);
     }
     Some(Broken {
@@ -108,11 +108,11 @@ fn first_vertex_break(f: &Function, s: &Site, instruction: Instruction) -> Optio
     None
 }
 
-fn fits_kind(kind: Kind, instruction: Instruction) -> bool
-    ensures { result ≡ fits kind instruction }
+fn fits_kind(kind: Kind, effect: Effect) -> bool
+    ensures { result ≡ fits kind effect }
 {
     match kind {
-        Kind::Step => instruction != Instruction::Ret,
-        Kind::Return => instruction == Instruction::Ret,
+        Kind::Step => effect != Effect::Ret,
+        Kind::Return => effect == Effect::Ret,
     }
 }

@@ -108,11 +108,16 @@ fn graph_with_two_edges(alloc: Global) -> Result<Graph, AllocError>
 }
 
 #[test]
+<<<<<<< HEAD
 fn a_step_with_two_edges_breaks_cases(rt: HostRuntime) -> Result<(), Fail> {
     let image = read_elf(rt.alloc(), FILE)?;
+=======
+fn a_step_with_two_edges_is_not_built(rt: HostRuntime) -> Result<(), Fail> {
+    let image = image(rt.alloc())?;
+>>>>>>> ba2fb7f
     let graph = graph_with_two_edges(rt.alloc())?;
     let answer = check(rt.alloc(), &image, &graph, None)?;
-    assert_eq!(rt; answer, broken_at(0x40_0078, Rule::Cases));
+    assert_eq!(rt; answer, Verdict::NotBuilt { site: 0x40_0078 });
     Ok(())
 }
 

@@ -74,7 +74,7 @@ fn edge_rule(
         return Some(Rule::Address);
     }
     match vertex_there(f, edge.0, edge.1) {
-        Some(target) => first_missing(instruction, p, &target.pred),
+        Some(target) => first_missing(instruction.effect, p, &target.pred),
         None => Some(Rule::Vertex),
     }
 }

@@ -1,5 +1,5 @@
 -- What follows of `check`: valid graphs, and the first broken rule.
-use Rattle.std.proofs.Common.{◌≡◌, ◌⊎◌, inl, inr, ℕ, List, refl, sym, ◌∙◌, ap, subst, Some, arith}
+use Rattle.std.proofs.Common.{◌≡◌, ◌⊎◌, inl, inr, ℕ, ◌<◌, List, refl, sym, ◌∙◌, ap, subst, Some, arith}
 use Rattle.std.specs.declared.option.Option.{Option}
 use Rattle.wire_io.specs.Shelf.{IsAll}
 use Rattle.elf_image.specs.declared.image.Image.{Image}
@@ -10,12 +10,20 @@ use Rattle.hoare_graph.specs.declared.verdict.Verdict.TheVariants.{Valid, Invali
 use Rattle.edge_checker.specs.Breaks.{verdict_of}
 use Rattle.edge_checker.specs.Rules.{IsValid}
 use Rattle.edge_checker.proofs.ValidLemmas.{valid_exactly}
-use Rattle.foxdec_main.specs.Words.{check}
-use Rattle.foxdec_main.specs.Ending.{Ending, not_built, status_of, output_of}
+use Rattle.foxdec_main.specs.declared.file_refusal.FileRefusal.{FileRefusal}
+use Rattle.foxdec_main.specs.FileRefusal.{executable_refusal}
+use Rattle.foxdec_main.specs.Words.{Asked, check}
+use Rattle.foxdec_main.specs.Ending.{Ending, file_refused, status_of, output_of, text_of}
 use Rattle.foxdec_main.specs.VerdictLine.{judged, valid_line, invalid_line}
+<<<<<<< HEAD
 use Rattle.foxdec_main.specs.Outcome.{IsExecutable, IsGraphText, Allows, IsNoFormOf, ComesTo}
 use Rattle.foxdec_main.specs.Outside.{Files, Stream, Adds}
 use Rattle.foxdec_main.specs.Promise.{Gives, Ends, IsExcused, GivesDue, HoldsOf, AllowsBoth, IsFirstBroken}
+=======
+use Rattle.foxdec_main.specs.Outcome.{IsExecutable, IsGraphText, IsRefusedFile, IsRefusedGraph, Tells, Allows, Takes, ComesTo}
+use Rattle.foxdec_main.specs.Outside.{Files, Stream, Adds, Says}
+use Rattle.foxdec_main.specs.Promise.{Gives, Ends, IsExcused, GivesDue, file_of, SaysRefused, HoldsOf, AllowsBoth, IsFirstBroken}
+>>>>>>> ba2fb7f
 use Rattle.foxdec_main.proofs.PromiseLemmas.{answers, decides}
 
 -- the verdict of an ending with status 0
@@ -30,21 +38,66 @@ judged-1 graph Valid is = absurd (omega (arith, is))
 judged-1 graph (Invalid broken) is = (broken, refl)
 judged-1 graph (NotBuilt site) is = absurd (omega (arith, is))
 
-module _ (told : List ℕ → Option (List ℕ)) (file graph : List ℕ) (e : Ending) (built : status_of e ≡ 9 → ⊥) where
+-- no verdict has status 4
+judged-not_4 : (graph : List ℕ) (v : Verdict) → status_of (judged graph v) ≡ 4 → ⊥
+judged-not_4 graph Valid is = omega (arith, is)
+judged-not_4 graph (Invalid broken) is = omega (arith, is)
+judged-not_4 graph (NotBuilt site) is = omega (arith, is)
+
+-- an ending with status 4 of `check` is a refusal of the executable
+module _ (told : List ℕ → Option (List ℕ)) (e : Ending) (four : status_of e ≡ 4) where
+  graph_passed : (graph : List ℕ) (image : Image) → Allows (told graph) (Takes IsGraphText (λ bytes. IsRefusedGraph graph bytes e) (λ g. e ≡ judged graph (verdict_of image g))) → ⊥
+  graph_passed graph image (text, all, inl refused) = omega (arith, four, ap status_of refused.says)
+  graph_passed graph image (text, all, inr taken) = judged-not_4 graph (verdict_of image taken.0) (sym (ap status_of taken.2) ∙ four)
+
+  pub refused_file : (asked : Asked) → ComesTo Allows told asked e → Allows (told (file_of asked)) (λ bytes. IsRefusedFile (file_of asked) bytes e)
+  refused_file (check file graph) (bytes, all, inl refused) = (bytes, all, refused)
+  refused_file (check file graph) (bytes, all, inr taken) = absurd (graph_passed graph taken.0 taken.2)
+
+-- and the refusal of a told file decides the ending
+pub refusal_told : (told : List ℕ → Option (List ℕ)) (asked : Asked) (bytes : List ℕ) (refusal : FileRefusal) → told (file_of asked) ≡ Some bytes → executable_refusal bytes ≡ Some refusal → ComesTo Tells told asked (file_refused (file_of asked) refusal)
+refusal_told told (check file graph) bytes refusal is applies = (bytes, is, inl (record { refusal = refusal; applies = applies; says = refl }))
+
+module _ (files : Files) (out err : Stream) (asked : Asked) (status : ℕ) (ends : Ends files out err (Some asked) status) where
+  -- 4 only where the executable is refused, as the text says
+  says_refused : status ≡ 4 → GivesDue files out err asked status → SaysRefused files err asked
+  says_refused four given =
+      let e = given.ending in
+      let refused = refused_file files.told e (sym given.gives.status_is ∙ four) asked given.due.allowed in
+      let why = refused.2 in record {
+        refusal = why.refusal;
+        applies = (refused.0, refused.1, why.applies);
+        text = subst (λ (d : Ending). Says err (text_of d)) why.says given.gives.text;
+      }
+
+  pub only_refused : status ≡ 4 → SaysRefused files err asked
+  only_refused four = says_refused four (answers files out err status asked (inr (inr (inl four))) ends)
+
+  given_refused : (refusal : FileRefusal) → Gives out err status (file_refused (file_of asked) refusal) ⊎ IsExcused files out asked status
+      → ((status ≡ 4) × Says err (text_of (file_refused (file_of asked) refusal))) ⊎ IsExcused files out asked status
+  given_refused refusal (inl gives) = inl (gives.status_is, gives.text)
+  given_refused refusal (inr excused) = inr excused
+
+  -- everywhere it is refused, 4 and the text
+  pub all_refused : (bytes : List ℕ) (refusal : FileRefusal) → files.told (file_of asked) ≡ Some bytes → executable_refusal bytes ≡ Some refusal
+      → ((status ≡ 4) × Says err (text_of (file_refused (file_of asked) refusal))) ⊎ IsExcused files out asked status
+  all_refused bytes refusal is applies =
+      given_refused refusal (decides files out err status asked (file_refused (file_of asked) refusal) (refusal_told files.told asked bytes refusal is applies) ends)
+
+module _ (told : List ℕ → Option (List ℕ)) (file graph : List ℕ) (e : Ending) (answer : status_of e < 2) where
   -- an ending that is no refusal is that of a verdict
   abbrev Judges : Image → Graph → Type 0
   Judges image g = e ≡ judged graph (verdict_of image g)
 
   graph_at : (image : Image) (bytes text : List ℕ) → IsAll text (told graph) → IsExecutable bytes image
-      → (IsNoFormOf IsGraphText text × (e ≡ not_built graph)) ⊎ ((g : Graph) × IsGraphText text g × Judges image g) → Allows (told graph) (HoldsOf Judges bytes)
-  graph_at image bytes text all form (inl refused) = absurd (built (ap status_of refused.1))
+      → Takes IsGraphText (λ b. IsRefusedGraph graph b e) (Judges image) text → Allows (told graph) (HoldsOf Judges bytes)
+  graph_at image bytes text all form (inl refused) = absurd (omega (arith, answer, ap status_of refused.says))
   graph_at image bytes text all form (inr taken) = (text, all, (image, taken.0, form, taken.1, taken.2))
 
   file_at : (bytes : List ℕ) → IsAll bytes (told file)
-      → (IsNoFormOf IsExecutable bytes × (e ≡ not_built file)) ⊎ ((image : Image) × IsExecutable bytes image
-      × Allows (told graph) (λ text. (IsNoFormOf IsGraphText text × (e ≡ not_built graph)) ⊎ ((g : Graph) × IsGraphText text g × Judges image g)))
+      → Takes IsExecutable (λ b. IsRefusedFile file b e) (λ image. Allows (told graph) (Takes IsGraphText (λ b. IsRefusedGraph graph b e) (Judges image))) bytes
       → AllowsBoth Judges (told file) (told graph)
-  file_at bytes all (inl refused) = absurd (built (ap status_of refused.1))
+  file_at bytes all (inl refused) = absurd (omega (arith, answer, ap status_of refused.says))
   file_at bytes all (inr taken) = (bytes, all, graph_at taken.0 bytes taken.2.0 taken.2.1 taken.1 taken.2.2)
 
   pub judges : ComesTo Allows told (check file graph) e → AllowsBoth Judges (told file) (told graph)
@@ -56,7 +109,7 @@ module _ (files : Files) (out err : Stream) (file graph : List ℕ) (status : �
   valid_of zero given =
       let e = given.ending in
       let is_zero : status_of e ≡ 0 = sym given.gives.status_is ∙ zero in
-      let both = judges files.told file graph e (λ nine. omega (arith, is_zero, nine)) given.due.allowed in
+      let both = judges files.told file graph e (omega (arith, is_zero)) given.due.allowed in
       let of = both.2.2 in
       let v = verdict_of of.0 of.1 in
       let valid : v ≡ Valid = judged-0 graph v (ap status_of (sym of.4) ∙ is_zero) in (
@@ -73,7 +126,7 @@ module _ (files : Files) (out err : Stream) (file graph : List ℕ) (status : �
   broken_of one given =
       let e = given.ending in
       let is_one : status_of e ≡ 1 = sym given.gives.status_is ∙ one in
-      let both = judges files.told file graph e (λ nine. omega (arith, is_one, nine)) given.due.allowed in
+      let both = judges files.told file graph e (omega (arith, is_one)) given.due.allowed in
       let of = both.2.2 in
       let v = verdict_of of.0 of.1 in
       let broken = judged-1 graph v (ap status_of (sym of.4) ∙ is_one) in (

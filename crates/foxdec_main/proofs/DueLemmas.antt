@@ -7,6 +7,7 @@ use Rattle.hoare_graph.specs.declared.graph.Graph.{Graph}
 use Rattle.hoare_graph.specs.declared.verdict.Verdict.{Verdict}
 use Rattle.hoare_graph.specs.declared.verdict.Verdict.TheVariants.{Valid, Invalid, NotBuilt}
 use Rattle.edge_checker.specs.Breaks.{verdict_of}
+<<<<<<< HEAD
 use Rattle.foxdec_main.specs.Words.{check}
 use Rattle.foxdec_main.specs.Ending.{Ending, not_built}
 use Rattle.foxdec_main.specs.VerdictLine.{judged}
@@ -14,6 +15,16 @@ use Rattle.foxdec_main.specs.Outcome.{IsExecutable, IsGraphText, Tells, Allows, 
 use Rattle.foxdec_main.specs.Promise.{IsShown}
 use Rattle.foxdec_main.specs.Taking.{IsOnlyOf, IsRefused}
 use Rattle.foxdec_main.proofs.TakingLemmas.{refused_allowed, refused_decided, taken_allowed, taken_decided}
+=======
+use Rattle.foxdec_main.specs.Words.{Asked, check}
+use Rattle.foxdec_main.specs.Ending.{Ending}
+use Rattle.foxdec_main.specs.VerdictLine.{judged}
+use Rattle.foxdec_main.specs.Outcome.{IsExecutable, IsGraphText, IsRefusedFile, IsRefusedGraph, Tells, Allows, Takes, IsDue, Reads}
+use Rattle.foxdec_main.specs.Outside.{Files, ReadFailed}
+use Rattle.foxdec_main.specs.Promise.{IsShown, IsUnreadable}
+use Rattle.foxdec_main.specs.Taking.{IsOnlyOf, IsRefused, FailedRead}
+use Rattle.foxdec_main.proofs.TakingLemmas.{executable_refuses, graph_refuses, refused_allowed, refused_decided, taken_allowed, taken_decided}
+>>>>>>> ba2fb7f
 
 -- what comes of a graph's bytes once the image is known
 abbrev pub Rest : List ℕ → Ending → Image → Graph → Type 0
@@ -22,35 +33,35 @@ Rest graph e image g = e ≡ judged graph (verdict_of image g)
 module _ (told : List ℕ → Option (List ℕ)) (file graph : List ℕ) where
   -- what comes of the graph's file once the image is known
   abbrev AfterTold : Ending → Image → Type 0
-  AfterTold e image = Allows (told graph) (Takes IsGraphText (e ≡ not_built graph) (Rest graph e image))
+  AfterTold e image = Allows (told graph) (Takes IsGraphText (λ bytes. IsRefusedGraph graph bytes e) (Rest graph e image))
 
   abbrev AfterTells : Ending → Image → Type 0
-  AfterTells e image = Tells (told graph) (Takes IsGraphText (e ≡ not_built graph) (Rest graph e image))
+  AfterTells e image = Tells (told graph) (Takes IsGraphText (λ bytes. IsRefusedGraph graph bytes e) (Rest graph e image))
 
   -- the executable is refused
-  pub file_refused : (e : Ending) → IsRefused IsExecutable (told file) file e → IsDue told (check file graph) e
-  file_refused e refused = record {
-    allowed = refused_allowed IsExecutable (told file) (not_built file) e refused.0 refused.1 (AfterTold e);
-    decided = λ other. refused_decided IsExecutable (told file) (not_built file) e refused.0 refused.1 (AfterTells other) other;
+  pub file_due : (e : Ending) → IsRefused (IsRefusedFile file) (told file) e → IsDue told (check file graph) e
+  file_due e refused = record {
+    allowed = refused_allowed IsExecutable (IsRefusedFile file) (told file) e refused (AfterTold e);
+    decided = λ other. refused_decided IsExecutable (IsRefusedFile file) (told file) e refused (executable_refuses file) (AfterTells other) other;
   }
 
   module _ (image : Image) (only : Allows (told file) (λ bytes. IsOnlyOf IsExecutable bytes image)) where
     -- the graph is refused
-    pub graph_refused : (e : Ending) → IsRefused IsGraphText (told graph) graph e → IsDue told (check file graph) e
-    graph_refused e refused = record {
-      allowed = taken_allowed IsExecutable (told file) (not_built file) image only e (AfterTold e)
-          (refused_allowed IsGraphText (told graph) (not_built graph) e refused.0 refused.1 (Rest graph e image));
-      decided = λ other. taken_decided IsExecutable (told file) (not_built file) image only e other (AfterTells other)
-          (refused_decided IsGraphText (told graph) (not_built graph) e refused.0 refused.1 (Rest graph other image) other);
+    pub graph_due : (e : Ending) → IsRefused (IsRefusedGraph graph) (told graph) e → IsDue told (check file graph) e
+    graph_due e refused = record {
+      allowed = taken_allowed IsExecutable (IsRefusedFile file) (told file) image only e (AfterTold e)
+          (refused_allowed IsGraphText (IsRefusedGraph graph) (told graph) e refused (Rest graph e image));
+      decided = λ other. taken_decided IsExecutable (IsRefusedFile file) (told file) image only (executable_refuses file) e other (AfterTells other)
+          (refused_decided IsGraphText (IsRefusedGraph graph) (told graph) e refused (graph_refuses graph) (Rest graph other image) other);
     }
 
     -- the verdict of both
     pub verdict_due : (g : Graph) → Allows (told graph) (λ bytes. IsOnlyOf IsGraphText bytes g) → (e : Ending) → e ≡ judged graph (verdict_of image g) → IsDue told (check file graph) e
     verdict_due g only_g e is = record {
-      allowed = taken_allowed IsExecutable (told file) (not_built file) image only e (AfterTold e)
-          (taken_allowed IsGraphText (told graph) (not_built graph) g only_g e (Rest graph e image) is);
-      decided = λ other. taken_decided IsExecutable (told file) (not_built file) image only e other (AfterTells other)
-          (taken_decided IsGraphText (told graph) (not_built graph) g only_g e other (Rest graph other image) (λ came. is ∙ sym came));
+      allowed = taken_allowed IsExecutable (IsRefusedFile file) (told file) image only e (AfterTold e)
+          (taken_allowed IsGraphText (IsRefusedGraph graph) (told graph) g only_g e (Rest graph e image) is);
+      decided = λ other. taken_decided IsExecutable (IsRefusedFile file) (told file) image only (executable_refuses file) e other (AfterTells other)
+          (taken_decided IsGraphText (IsRefusedGraph graph) (told graph) g only_g (graph_refuses graph) e other (Rest graph other image) (λ came. is ∙ sym came));
     }
 
     -- the graph is read after the executable

@@ -1,5 +1,6 @@
 pub mod ShownLemmas
 pub mod TakingLemmas
+pub mod FileLemmas
 pub mod DueLemmas
 pub mod TextLemmas
 pub mod PromiseLemmas

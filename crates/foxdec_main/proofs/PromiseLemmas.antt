@@ -2,15 +2,28 @@
 use Rattle.std.proofs.Common.{◌≡◌, ◌⊎◌, ◌↔◌, inl, inr, ℕ, ◌<◌, List, [], true, false, refl, sym, ◌∙◌, ap, subst, Some, None, arith, lit<}
 use Rattle.std.specs.declared.option.Option.{Option}
 use Rattle.foxdec_main.specs.Words.{Asked}
+<<<<<<< HEAD
 use Rattle.foxdec_main.specs.Ending.{Ending, printed, not_a_command, read_failed, not_built, site_not_built, write_failed, out_of_memory, status_of}
+=======
+use Rattle.foxdec_main.specs.Ending.{Ending, printed, not_a_command, read_failed, file_refused, not_built, site_not_built, write_failed, out_of_memory, status_of, output_of}
+>>>>>>> ba2fb7f
 use Rattle.foxdec_main.specs.Outcome.{Tells, ComesTo, IsDue}
 use Rattle.foxdec_main.specs.Outside.{Files, Stream, HasTrouble, Adds}
 use Rattle.foxdec_main.specs.Promise.{IsShown, IsUnreadable, Gives, Ends, IsExcused, IsAnswered, IsSilent, GivesDue, SaysUnreadable, IsCutOff}
 use Rattle.foxdec_main.proofs.TextLemmas.{Grows-refl}
 
--- no status between 1 and 9 is that of an answer
-pub answered-not : (s n : ℕ) → IsAnswered s → s ≡ n → 1 < n → n < 9 → ⊥
-answered-not s n answered is low high = grind arith
+-- the status of an answer is none of these
+pub answered-not_2 : (s : ℕ) → IsAnswered s → s ≡ 2 → ⊥
+answered-not_2 s answered is = grind arith
+
+pub answered-not_3 : (s : ℕ) → IsAnswered s → s ≡ 3 → ⊥
+answered-not_3 s answered is = grind arith
+
+pub answered-not_6 : (s : ℕ) → IsAnswered s → s ≡ 6 → ⊥
+answered-not_6 s answered is = grind arith
+
+pub answered-not_7 : (s : ℕ) → IsAnswered s → s ≡ 7 → ⊥
+answered-not_7 s answered is = grind arith
 
 -- a run that writes nothing has none of these
 silent-not_0 : (s : ℕ) → IsSilent s → s ≡ 0 → ⊥
@@ -36,8 +49,9 @@ module _ (files : Files) (out err : Stream) (status : ℕ) where
   ways_at asked (printed false output) c gives = inl (inr (inl gives.status_is), record { ending = printed false output; due = c; gives = gives })
   ways_at asked not_a_command c gives = absurd c
   ways_at asked (read_failed name) c gives = inr (inl (gives.status_is, record { name = name; unreadable = c; text = gives.text }))
-  ways_at asked (not_built name) c gives = inl (inr (inr gives.status_is), record { ending = not_built name; due = c; gives = gives })
-  ways_at asked (site_not_built name site) c gives = inl (inr (inr gives.status_is), record { ending = site_not_built name site; due = c; gives = gives })
+  ways_at asked (file_refused name refusal) c gives = inl (inr (inr (inl gives.status_is)), record { ending = file_refused name refusal; due = c; gives = gives })
+  ways_at asked (not_built name) c gives = inl (inr (inr (inr gives.status_is)), record { ending = not_built name; due = c; gives = gives })
+  ways_at asked (site_not_built name site) c gives = inl (inr (inr (inr gives.status_is)), record { ending = site_not_built name site; due = c; gives = gives })
   ways_at asked (write_failed valid output taken) c gives =
       inr (inr (inl (gives.status_is, record { valid = valid; output = output; taken = taken; due = c.0; proper = c.1; front = gives.output; trouble = c.2; text = gives.text })))
   ways_at asked out_of_memory c gives = inr (inr (inr gives.status_is))
@@ -45,19 +59,19 @@ module _ (files : Files) (out err : Stream) (status : ℕ) where
   pub ways : (asked : Asked) → Ends files out err (Some asked) status → Ways asked
   ways asked ends = ways_at asked ends.ending ends.caused ends.gives
 
-  -- 0, 1 and 9 come with what is due
+  -- 0, 1, 4 and 9 come with what is due
   answers_in : (asked : Asked) → IsAnswered status → Ways asked → GivesDue files out err asked status
   answers_in asked answered (inl way) = way.1
-  answers_in asked answered (inr (inl way)) = absurd (answered-not status 3 answered way.0 (lit< tt) (lit< tt))
-  answers_in asked answered (inr (inr (inl way))) = absurd (answered-not status 6 answered way.0 (lit< tt) (lit< tt))
-  answers_in asked answered (inr (inr (inr way))) = absurd (answered-not status 7 answered way (lit< tt) (lit< tt))
+  answers_in asked answered (inr (inl way)) = absurd (answered-not_3 status answered way.0)
+  answers_in asked answered (inr (inr (inl way))) = absurd (answered-not_6 status answered way.0)
+  answers_in asked answered (inr (inr (inr way))) = absurd (answered-not_7 status answered way)
 
   pub answers : (asked : Asked) → IsAnswered status → Ends files out err (Some asked) status → GivesDue files out err asked status
   answers asked answered ends = answers_in asked answered (ways asked ends)
 
   -- 3 comes with a read that failed
   unreadable_in : (asked : Asked) → status ≡ 3 → Ways asked → SaysUnreadable files err asked
-  unreadable_in asked is (inl way) = absurd (answered-not status 3 way.0 is (lit< tt) (lit< tt))
+  unreadable_in asked is (inl way) = absurd (answered-not_3 status way.0 is)
   unreadable_in asked is (inr (inl way)) = way.1
   unreadable_in asked is (inr (inr (inl way))) = absurd (omega (arith, is, way.0))
   unreadable_in asked is (inr (inr (inr way))) = absurd (omega (arith, is, way))
@@ -67,7 +81,7 @@ module _ (files : Files) (out err : Stream) (status : ℕ) where
 
   -- 6 comes with an output that was cut off
   cut_in : (asked : Asked) → status ≡ 6 → Ways asked → IsCutOff files out err asked
-  cut_in asked is (inl way) = absurd (answered-not status 6 way.0 is (lit< tt) (lit< tt))
+  cut_in asked is (inl way) = absurd (answered-not_6 status way.0 is)
   cut_in asked is (inr (inl way)) = absurd (omega (arith, is, way.0))
   cut_in asked is (inr (inr (inl way))) = way.1
   cut_in asked is (inr (inr (inr way))) = absurd (omega (arith, is, way))
@@ -96,7 +110,7 @@ module _ (files : Files) (out err : Stream) (status : ℕ) where
   completes asked readable calm ends = completes_in asked readable calm (ways asked ends)
 
   not_two : (asked : Asked) → status ≡ 2 → Ways asked → ⊥
-  not_two asked is (inl way) = answered-not status 2 way.0 is (lit< tt) (lit< tt)
+  not_two asked is (inl way) = answered-not_2 status way.0 is
   not_two asked is (inr (inl way)) = omega (arith, is, way.0)
   not_two asked is (inr (inr (inl way))) = omega (arith, is, way.0)
   not_two asked is (inr (inr (inr way))) = omega (arith, is, way)
@@ -114,11 +128,12 @@ module _ (files : Files) (out err : Stream) (status : ℕ) where
   silent_at (printed false output) silent gives = absurd (silent-not_1 status silent gives.status_is)
   silent_at not_a_command silent gives = nothing gives.output
   silent_at (read_failed name) silent gives = nothing gives.output
+  silent_at (file_refused name refusal) silent gives = nothing gives.output
   silent_at (not_built name) silent gives = nothing gives.output
   silent_at (site_not_built name site) silent gives = nothing gives.output
   silent_at (write_failed valid output taken) silent gives = absurd (silent-not_6 status silent gives.status_is)
   silent_at out_of_memory silent gives = nothing gives.output
 
-  -- at 2, 3, 7 and 9 nothing is written
+  -- at 2, 3, 4, 7 and 9 nothing is written
   pub silent_written : (request : Option Asked) → IsSilent status → Ends files out err request status → out.later_written ≡ out.written
   silent_written request silent ends = silent_at ends.ending silent ends.gives

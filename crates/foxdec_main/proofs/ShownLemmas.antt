@@ -2,7 +2,7 @@
 use Rattle.std.proofs.Common.{⊎_elim, ℕ, ◌<◌, List, length, Bool, sym, subst, Result, Ok, Err, IfErr, Some, None}
 use Rattle.std.specs.declared.option.Option.{Option}
 use Rattle.foxdec_main.specs.Words.{Asked}
-use Rattle.foxdec_main.specs.Ending.{Ending, printed, not_a_command, read_failed, not_built, site_not_built, write_failed, out_of_memory}
+use Rattle.foxdec_main.specs.Ending.{Ending, printed, not_a_command, read_failed, file_refused, not_built, site_not_built, write_failed, out_of_memory}
 use Rattle.foxdec_main.specs.Outcome.{IsDue}
 use Rattle.foxdec_main.specs.Outside.{Files}
 use Rattle.foxdec_main.specs.Promise.{IsShown, IsUnreadable, IsCaused}
@@ -13,6 +13,7 @@ pub IsShown-map : (D E : Ending → Type 0) (F G : List ℕ → Type 0) (T U : T
 IsShown-map D E F G T U d f t (printed valid output) c = d (printed valid output) c
 IsShown-map D E F G T U d f t not_a_command c = c
 IsShown-map D E F G T U d f t (read_failed name) c = f name c
+IsShown-map D E F G T U d f t (file_refused name refusal) c = d (file_refused name refusal) c
 IsShown-map D E F G T U d f t (not_built name) c = d (not_built name) c
 IsShown-map D E F G T U d f t (site_not_built name site) c = d (site_not_built name site) c
 IsShown-map D E F G T U d f t (write_failed valid output taken) c = (d (printed valid output) c.0, c.1, t c.2)

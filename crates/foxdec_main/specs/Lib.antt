@@ -1,4 +1,5 @@
 pub mod Words
+pub mod FileRefusal
 pub mod Ending
 pub mod VerdictLine
 pub mod Outcome

@@ -1,33 +1,40 @@
 -- What the files of a command come to, as far as their bytes are told.
-use Rattle.std.specs.Prelude.{◌≡◌, ◌⊎◌, ℕ, ◌≤◌, List, length, Some}
+use Rattle.std.specs.Prelude.{◌≡◌, ◌⊎◌, ℕ, ◌≤◌, List, length, Some, None}
 use Rattle.std.specs.declared.option.Option.{Option}
 use Rattle.wire_io.specs.Shelf.{IsAll}
 use Rattle.elf_image.specs.declared.image.Image.{Image}
-use Rattle.elf_image.specs.BaseFile.{base_file, base_image}
+use Rattle.elf_image.specs.Loaded.{image_of}
 use Rattle.hoare_graph.specs.declared.graph.Graph.{Graph}
 use Rattle.hoare_graph.specs.FirstPath.{IsFirstPath}
 use Rattle.hoare_graph.specs.Text.{graph_text}
 use Rattle.edge_checker.specs.Breaks.{verdict_of}
 use Rattle.foxdec_main.specs.Words.{Asked, check}
-use Rattle.foxdec_main.specs.Ending.{Ending, not_built}
+use Rattle.foxdec_main.specs.declared.file_refusal.FileRefusal.{FileRefusal}
+use Rattle.foxdec_main.specs.FileRefusal.{limit, executable_refusal}
+use Rattle.foxdec_main.specs.Ending.{Ending, file_refused, not_built}
 use Rattle.foxdec_main.specs.VerdictLine.{judged}
 
--- the most bytes of a file
-abbrev pub limit : ℕ
-limit = 67108864
-
--- The bytes are a base file within the limit, and this is its image.
+-- No refusal applies to the bytes, and this is their image.
 pub record IsExecutable (bytes : List ℕ) (image : Image) : Type 0 where
-  pub within : length bytes ≤ limit
-  pub code : List ℕ
-  pub spelled : bytes ≡ base_file code
-  pub loaded : image ≡ base_image code
+  pub accepted : executable_refusal bytes ≡ None
+  pub loaded : image ≡ image_of bytes
+
+-- A refusal applies to the bytes of the file of this name, and the ending says which.
+pub record IsRefusedFile (file bytes : List ℕ) (ending : Ending) : Type 0 where
+  pub refusal : FileRefusal
+  pub applies : executable_refusal bytes ≡ Some refusal
+  pub says : ending ≡ file_refused file refusal
 
 -- The bytes are the text of this graph, within the limit.
 pub record IsGraphText (bytes : List ℕ) (g : Graph) : Type 0 where
   pub within : length bytes ≤ limit
   pub first_path : IsFirstPath g
   pub spelled : bytes ≡ graph_text g
+
+-- The bytes of the graph of this name are no graph's text, and the ending says so.
+pub record IsRefusedGraph (graph bytes : List ℕ) (ending : Ending) : Type 0 where
+  pub no_text : (g : Graph) → IsGraphText bytes g → ⊥
+  pub says : ending ≡ not_built graph
 
 -- a file is told, and this holds of its bytes
 abbrev pub Tells : Option (List ℕ) → (List ℕ → Type 0) → Type 0
@@ -37,22 +44,18 @@ Tells told Holds = (bytes : List ℕ) × (told ≡ Some bytes) × Holds bytes
 abbrev pub Allows : Option (List ℕ) → (List ℕ → Type 0) → Type 0
 Allows told Holds = (bytes : List ℕ) × IsAll bytes told × Holds bytes
 
--- the bytes are of no value
-abbrev pub IsNoFormOf : {X : Type 0} → (List ℕ → X → Type 0) → List ℕ → Type 0
-IsNoFormOf {X = X} Form bytes = (x : X) → Form bytes x → ⊥
-
--- the bytes are of no value and are refused, or are of one, and what comes next holds of it
-abbrev pub Takes : {X : Type 0} → (List ℕ → X → Type 0) → Type 0 → (X → Type 0) → List ℕ → Type 0
-Takes {X = X} Form Refused Next bytes =
-    (IsNoFormOf Form bytes × Refused) ⊎ ((x : X) × Form bytes x × Next x)
+-- the bytes are refused, or they are of a value, and what comes next holds of it
+abbrev pub Takes : {X : Type 0} → (List ℕ → X → Type 0) → (List ℕ → Type 0) → (X → Type 0)
+    → List ℕ → Type 0
+Takes {X = X} Form Refused Next bytes = Refused bytes ⊎ ((x : X) × Form bytes x × Next x)
 
 -- The ending that files come to. `check` takes the executable first, then the graph, and then the
 -- verdict of both. `Of` says of which bytes of a file it speaks: the told ones, or any allowed.
 abbrev pub ComesTo : (Option (List ℕ) → (List ℕ → Type 0) → Type 0)
     → (List ℕ → Option (List ℕ)) → Asked → Ending → Type 0
 ComesTo Of told (check file graph) ending =
-    Of (told file) (Takes IsExecutable (ending ≡ not_built file) (λ image.
-    Of (told graph) (Takes IsGraphText (ending ≡ not_built graph) (λ g.
+    Of (told file) (Takes IsExecutable (λ bytes. IsRefusedFile file bytes ending) (λ image.
+    Of (told graph) (Takes IsGraphText (λ bytes. IsRefusedGraph graph bytes ending) (λ g.
     ending ≡ judged graph (verdict_of image g)))))
 
 -- The ending is the one that the files come to, as far as they are told.

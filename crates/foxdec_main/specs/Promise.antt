@@ -6,8 +6,10 @@ use Rattle.hoare_graph.specs.declared.graph.Graph.{Graph}
 use Rattle.hoare_graph.specs.declared.verdict.Broken.{Broken}
 use Rattle.hoare_graph.specs.declared.verdict.Verdict.TheVariants.{Invalid}
 use Rattle.edge_checker.specs.Breaks.{verdict_of}
-use Rattle.foxdec_main.specs.Words.{Asked}
-use Rattle.foxdec_main.specs.Ending.{Ending, printed, not_a_command, read_failed, not_built, site_not_built, write_failed, out_of_memory, status_of, output_of, text_of}
+use Rattle.foxdec_main.specs.declared.file_refusal.FileRefusal.{FileRefusal}
+use Rattle.foxdec_main.specs.FileRefusal.{executable_refusal}
+use Rattle.foxdec_main.specs.Words.{Asked, check}
+use Rattle.foxdec_main.specs.Ending.{Ending, printed, not_a_command, read_failed, file_refused, not_built, site_not_built, write_failed, out_of_memory, status_of, output_of, text_of}
 use Rattle.foxdec_main.specs.Outcome.{Allows, IsExecutable, IsGraphText, IsDue, Reads}
 use Rattle.foxdec_main.specs.Outside.{Files, Stream, ReadFailed, HasTrouble, Adds, Says}
 
@@ -17,6 +19,7 @@ abbrev pub IsShown : (Ending → Type 0) → (List ℕ → Type 0) → Type 0 �
 IsShown Due Failed Trouble (printed valid output) = Due (printed valid output)
 IsShown Due Failed Trouble not_a_command = ⊥
 IsShown Due Failed Trouble (read_failed name) = Failed name
+IsShown Due Failed Trouble (file_refused name refusal) = Due (file_refused name refusal)
 IsShown Due Failed Trouble (not_built name) = Due (not_built name)
 IsShown Due Failed Trouble (site_not_built name site) = Due (site_not_built name site)
 IsShown Due Failed Trouble (write_failed valid output taken) =
@@ -55,11 +58,11 @@ IsExcused files out asked status =
 
 -- a run of a command that gives what its files come to
 abbrev pub IsAnswered : ℕ → Type 0
-IsAnswered status = (status ≡ 0) ⊎ (status ≡ 1) ⊎ (status ≡ 9)
+IsAnswered status = (status ≡ 0) ⊎ (status ≡ 1) ⊎ (status ≡ 4) ⊎ (status ≡ 9)
 
 -- a run that writes nothing
 abbrev pub IsSilent : ℕ → Type 0
-IsSilent status = (status ≡ 2) ⊎ (status ≡ 3) ⊎ (status ≡ 7) ⊎ (status ≡ 9)
+IsSilent status = (status ≡ 2) ⊎ (status ≡ 3) ⊎ (status ≡ 4) ⊎ (status ≡ 7) ⊎ (status ≡ 9)
 
 -- What the files come to was given.
 pub record GivesDue (files : Files) (out err : Stream) (asked : Asked) (status : ℕ) : Type 0 where
@@ -72,6 +75,17 @@ pub record SaysUnreadable (files : Files) (err : Stream) (asked : Asked) : Type 
   pub name : List ℕ
   pub unreadable : IsUnreadable files asked name
   pub text : Says err (text_of (read_failed name))
+
+-- the file of the executable that a command reads
+abbrev pub file_of : Asked → List ℕ
+file_of (check file graph) = file
+
+-- A refusal applies to the executable's file, and the text says which.
+pub record SaysRefused (files : Files) (err : Stream) (asked : Asked) : Type 0 where
+  pub refusal : FileRefusal
+  pub applies : Allows (files.told (file_of asked)) (λ bytes.
+      executable_refusal bytes ≡ Some refusal)
+  pub text : Says err (text_of (file_refused (file_of asked) refusal))
 
 -- The output stream had trouble, and took fewer bytes of the due output than there are.
 pub record IsCutOff (files : Files) (out err : Stream) (asked : Asked) : Type 0 where

@@ -1,12 +1,12 @@
 -- The program's own types as plain data.
 use Rattle.std.specs.Prelude.{string_bytes, Result, Ok, Err}
 use Rattle.foxdec_main.specs.Words.{Asked, check}
-use Rattle.foxdec_main.specs.Ending.{Ending, printed, not_a_command, read_failed, not_built, site_not_built, out_of_memory}
+use Rattle.foxdec_main.specs.Ending.{Ending, printed, not_a_command, read_failed, file_refused, not_built, site_not_built, out_of_memory}
 use Rattle.foxdec_main.specs.declared.words.Request.{Request}
 use Rattle.foxdec_main.specs.declared.words.Request.TheVariants.{Check}
 use Rattle.foxdec_main.specs.declared.ending.Output.{Output}
 use Rattle.foxdec_main.specs.declared.ending.Refusal.{Refusal}
-use Rattle.foxdec_main.specs.declared.ending.Refusal.TheVariants.{NotACommand, ReadFailed, NotBuilt, SiteNotBuilt, OutOfMemory}
+use Rattle.foxdec_main.specs.declared.ending.Refusal.TheVariants.{NotACommand, ReadFailed, FileRefused, NotBuilt, SiteNotBuilt, OutOfMemory}
 
 -- what a request asks for
 abbrev pub asked_of : Request → Asked
@@ -16,6 +16,7 @@ asked_of (Check file graph) = check file.now graph.now
 abbrev pub refused_of : Refusal → Ending
 refused_of NotACommand = not_a_command
 refused_of (ReadFailed name) = read_failed name.now
+refused_of (FileRefused name refusal) = file_refused name.now refusal
 refused_of (NotBuilt name) = not_built name.now
 refused_of (SiteNotBuilt name site) = site_not_built name.now (string_bytes site)
 refused_of OutOfMemory = out_of_memory

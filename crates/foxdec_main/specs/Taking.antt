@@ -1,8 +1,8 @@
 -- What a command learns of a file that it takes.
 use Rattle.std.specs.Prelude.{◌≡◌, ◌⊎◌, List, ℕ}
 use Rattle.std.specs.declared.option.Option.{Option}
-use Rattle.foxdec_main.specs.Ending.{Ending, not_built, out_of_memory}
-use Rattle.foxdec_main.specs.Outcome.{Allows, IsNoFormOf}
+use Rattle.foxdec_main.specs.Ending.{Ending, out_of_memory}
+use Rattle.foxdec_main.specs.Outcome.{Allows}
 use Rattle.foxdec_main.specs.Outside.{Files, ReadFailed}
 
 -- The bytes are of this value, and of no other.
@@ -11,15 +11,9 @@ pub record IsOnlyOf {X : Type 0} (Form : List ℕ → X → Type 0) (bytes : Lis
   pub form : Form bytes x
   pub only : (y : X) → Form bytes y → x ≡ y
 
--- the bytes are of no value, and the ending says so of their name
-abbrev pub IsFormless : {X : Type 0} → (List ℕ → X → Type 0) → List ℕ → List ℕ → Ending
-    → Type 0
-IsFormless Form bytes name ending = (ending ≡ not_built name) × IsNoFormOf Form bytes
-
--- a file is refused: its bytes, the told ones where it is told, are of no value
-abbrev pub IsRefused : {X : Type 0} → (List ℕ → X → Type 0) → Option (List ℕ) → List ℕ
-    → Ending → Type 0
-IsRefused Form told name ending = (ending ≡ not_built name) × Allows told (IsNoFormOf Form)
+-- a file is refused: its bytes, the told ones where it is told, are
+abbrev pub IsRefused : (List ℕ → Ending → Type 0) → Option (List ℕ) → Ending → Type 0
+IsRefused Refused told ending = Allows told (λ bytes. Refused bytes ending)
 
 -- reads of a file failed, and this is its name
 abbrev pub FailedRead : Files → List ℕ → List ℕ → Type 0

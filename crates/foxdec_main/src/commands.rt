@@ -5,13 +5,15 @@ ghost use Rattle.hoare_graph.specs.WellFormed.{IsWellFormed};
 ghost use Rattle.edge_checker.specs.Breaks.{verdict_of};
 ghost use Rattle.foxdec_main.specs.Words.{check, request_of};
 ghost use Rattle.foxdec_main.specs.VerdictLine.{judged};
-ghost use Rattle.foxdec_main.specs.Outcome.{limit, IsExecutable, IsGraphText, Allows};
+ghost use Rattle.foxdec_main.specs.FileRefusal.{limit};
+ghost use Rattle.foxdec_main.specs.Outcome.{IsExecutable, IsGraphText, IsRefusedFile, IsRefusedGraph, Allows};
 ghost use Rattle.foxdec_main.specs.Outside.{files_of};
 ghost use Rattle.foxdec_main.specs.Promise.{IsShown, IsCaused};
-ghost use Rattle.foxdec_main.specs.Taking.{IsOnlyOf, IsFormless, IsRefused, FailedRead, NoRead, IsOrMemory};
+ghost use Rattle.foxdec_main.specs.Taking.{IsOnlyOf, IsRefused, FailedRead, NoRead, IsOrMemory};
 ghost use Rattle.foxdec_main.specs.Seen.{refused_of, ending_of};
 
 use crate::ending::{Output, Refusal};
+use crate::file_refusal::FileRefusal;
 use crate::verdict_line::conclude;
 use crate::words::{Request, read_words};
 use elf_image::{ElfRefusal, Image, read_elf};
@@ -67,30 +69,30 @@ fn take_executable<'a, S: Shelf>(
     ensures found { IfOk result (λ image.
         Allows (S.file shelf.old name.now) (λ bytes. IsOnlyOf IsExecutable bytes image)) }
     ensures err { IfErr result (λ r. IsShown
-        (IsRefused IsExecutable (S.file shelf.old name.now) name.now)
+        (IsRefused (IsRefusedFile name.now) (S.file shelf.old name.now))
         (FailedRead (files_of S.file S.faults shelf.old shelf.new) name.now) ⊥ (refused_of r)) }
     ensures shelf { GoesOn (S.file shelf.old) (S.file shelf.new)
         (S.faults shelf.old) (S.faults shelf.new) }
 {
     match read_whole(alloc, shelf, name, LIMIT) {
-        Ok(bytes) => image_of(alloc, name, &bytes),
-        Err(ReadRefusal::TooLong) => Err(Refusal::NotBuilt(name)),
+        Ok(bytes) => executable_of(alloc, name, &bytes),
+        Err(ReadRefusal::TooLong) => Err(Refusal::FileRefused(name, FileRefusal::TooLong)),
         Err(ReadRefusal::Failed) => Err(Refusal::ReadFailed(name)),
         Err(ReadRefusal::NoMemory) => Err(Refusal::OutOfMemory),
     }
 }
 
 // The image of an executable's bytes.
-fn image_of<'a>(alloc: Global, name: &'a str, bytes: &[u8]) -> Result<Image, Refusal<'a>>
+fn executable_of<'a>(alloc: Global, name: &'a str, bytes: &[u8]) -> Result<Image, Refusal<'a>>
     requires { length bytes.now ≤ limit }
     ensures found { IfOk result (IsOnlyOf IsExecutable bytes.now) }
     ensures err { IfErr result (λ r.
-        IsShown (IsFormless IsExecutable bytes.now name.now) NoRead ⊥ (refused_of r)) }
+        IsShown (IsRefusedFile name.now bytes.now) NoRead ⊥ (refused_of r)) }
 {
     match read_elf(alloc, bytes) {
         Ok(image) => Ok(image),
-        Err(ElfRefusal::NotBuilt) => Err(Refusal::NotBuilt(name)),
-        Err(ElfRefusal::NoMemory) => Err(Refusal::OutOfMemory),
+        Err(refusal) if refusal == ElfRefusal::NoMemory => Err(Refusal::OutOfMemory),
+        Err(refusal) => Err(Refusal::FileRefused(name, FileRefusal::Elf(refusal))),
     }
 }
 
@@ -104,7 +106,7 @@ fn take_graph<'a, S: Shelf>(
         Allows (S.file shelf.old name.now) (λ bytes. IsOnlyOf IsGraphText bytes g)) }
     ensures well_formed { IfOk result IsWellFormed }
     ensures err { IfErr result (λ r. IsShown
-        (IsRefused IsGraphText (S.file shelf.old name.now) name.now)
+        (IsRefused (IsRefusedGraph name.now) (S.file shelf.old name.now))
         (FailedRead (files_of S.file S.faults shelf.old shelf.new) name.now) ⊥ (refused_of r)) }
     ensures shelf { GoesOn (S.file shelf.old) (S.file shelf.new)
         (S.faults shelf.old) (S.faults shelf.new) }
@@ -122,7 +124,7 @@ fn graph_of<'a>(alloc: Global, name: &'a str, bytes: &[u8]) -> Result<Graph, Ref
     requires { length bytes.now ≤ limit }
     ensures found { IfOk result (IsOnlyOf IsGraphText bytes.now) }
     ensures err { IfErr result (λ r.
-        IsShown (IsFormless IsGraphText bytes.now name.now) NoRead ⊥ (refused_of r)) }
+        IsShown (IsRefusedGraph name.now bytes.now) NoRead ⊥ (refused_of r)) }
 {
     match read_graph(alloc, bytes) {
         Ok(g) => Ok(g),

@@ -2,10 +2,11 @@
 ghost use Rattle.std.specs.Prelude.{◌≡◌, ◌++◌, codes};
 ghost use Rattle.std.specs.Fmt.{decimal};
 ghost use Rattle.std.specs.List.{flat_map};
-ghost use Rattle.foxdec_main.specs.Ending.{site_not_built, status_of, text_of};
+ghost use Rattle.foxdec_main.specs.Ending.{file_refused, site_not_built, status_of, text_of};
 ghost use Rattle.foxdec_main.specs.Outside.{stream_of, Says};
 ghost use Rattle.foxdec_main.specs.Seen.{refused_of};
 
+use crate::file_refusal::FileRefusal;
 use itoa::Buffer;
 use wire_io::{Sink, put_all};
 
@@ -21,6 +22,7 @@ pub struct Output {
 pub enum Refusal<'a> {
     NotACommand,
     ReadFailed(&'a str),
+    FileRefused(&'a str, FileRefusal),
     NotBuilt(&'a str),
     /// With the digits of the site's address.
     SiteNotBuilt(&'a str, String),
@@ -34,6 +36,7 @@ impl Refusal<'_> {
         match self {
             Refusal::NotACommand => 2,
             Refusal::ReadFailed(_) => 3,
+            Refusal::FileRefused(_, _) => 4,
             Refusal::NotBuilt(_) | Refusal::SiteNotBuilt(_, _) => 9,
             Refusal::OutOfMemory => 7,
         }
@@ -50,12 +53,35 @@ pub fn say_refusal<E: Sink>(err: &mut E, refusal: &Refusal<'_>)
         Refusal::ReadFailed(name) => {
             put_pieces(err, &[b"foxdec: ", name.as_bytes(), b": read failed\n"]);
         }
+        Refusal::FileRefused(name, refusal) => say_file_refused(err, name.as_bytes(), *refusal),
         Refusal::NotBuilt(name) => {
             put_pieces(err, &[b"foxdec: ", name.as_bytes(), b": not built yet\n"]);
         }
         Refusal::SiteNotBuilt(name, site) => say_site(err, name.as_bytes(), site.as_bytes()),
         Refusal::OutOfMemory => put_pieces(err, &[b"foxdec: out of memory\n"]),
     }
+}
+
+// Says why a file is no executable.
+fn say_file_refused<E: Sink>(err: &mut E, name: &[u8], refusal: FileRefusal)
+    ensures { Says (stream_of E.written E.faults E.stalls err.old err.new)
+        (text_of (file_refused name.now refusal)) }
+{
+    let mut digits = Buffer::new();
+    let number = digits.format(refusal.number());
+    say_file(err, name, refusal.name().as_bytes(), number.as_bytes());
+}
+
+// Says the refusal of a file, by its name and the digits of its number.
+fn say_file<'b, E: Sink>(err: &mut E, name: &'b [u8], refusal: &'b [u8], number: &'b [u8])
+    ensures { Says (stream_of E.written E.faults E.stalls err.old err.new)
+        (codes "foxdec: " ++ name.now ++ codes ": executable refused: " ++ refusal.now
+        ++ codes " (" ++ number.now ++ codes ")\n") }
+{
+    put_pieces(
+        err,
+        &[b"foxdec: ", name, b": executable refused: ", refusal, b" (", number, b")\n"],
+    );
 }
 
 // Says which site of a graph is not built.

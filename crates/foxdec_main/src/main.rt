@@ -5,6 +5,7 @@
 mod adapters;
 mod commands;
 mod ending;
+mod file_refusal;
 mod top;
 mod verdict_line;
 mod words;

@@ -121,6 +121,12 @@ s 400082 ret\nv 0\nr rax=-2\nc [rsp0;8]=ra\n",
             "invalid 400078 400078 0 0 register\n",
         ),
         (
+            b"\x66\x90\xc3",
+            "s 400078 step\nv 0\nc [rsp0;8]=ra\n> 40007a:0\ns 40007a ret\nv 0\nc [rsp0;8]=ra\n",
+            0,
+            "valid\n",
+        ),
+        (
             MOVE_RET,
             "s 400078 step\nv 0\nc [rsp0;8]=ra\n> 400081:0\n\
 s 400082 ret\nv 0\nr rax=-1\nc [rsp0;8]=ra\n",
@@ -160,16 +166,31 @@ s 40007a ret\nv 0\nc [rsp0;8]=ra\nc [rsp0-8;8]=rbx0\n",
     Ok(())
 }
 
+// An executable of 121 bytes with one byte changed, up to a length.
+fn changed(alloc: Global, at: usize, byte: u8, len: usize) -> Result<Vec<u8>, NoMemory> {
+    let mut file = executable(alloc, b"\xc3")?;
+    if at < file.len() {
+        file[at] = byte;
+    }
+    file.truncate(len);
+    Ok(file)
+}
+
+// The places and the meanings of the bytes are those of ELF-64: p_filesz at 96, e_type at 16.
 #[test]
-fn a_file_that_ends_in_its_header_is_not_built(rt: HostRuntime) -> Result<(), Fail> {
+fn names_why_a_file_is_no_executable(rt: HostRuntime) -> Result<(), Fail> {
     let alloc = rt.alloc();
-    let files = files(alloc, HEADERS[..63].to_vec(alloc)?, graph(alloc, RET)?)?;
-    let run = run(alloc, "check a g", files, Vec::new(alloc), Vec::new(alloc))?;
-    assert_eq!(rt; run.status, 9);
-    assert_eq!(rt;
-        run.err.as_slice(),
-        b"foxdec: a: not built yet\n".as_slice()
-    );
+    for (at, byte, len, err) in [
+        (0, 0x7f, 63, "foxdec: a: executable refused: TooShort (1)\n"),
+        (96, 122, 121, "foxdec: a: executable refused: SegmentOutside (12)\n"),
+        (16, 3, 121, "foxdec: a: executable refused: NotExec (6)\n"),
+    ] {
+        let files = files(alloc, changed(alloc, at, byte, len)?, graph(alloc, RET)?)?;
+        let run = run(alloc, "check a g", files, Vec::new(alloc), Vec::new(alloc))?;
+        assert_eq!(rt; run.status, 4, "the status with {err}");
+        assert_eq!(rt; run.out.len(), 0, "the output with {err}");
+        assert_eq!(rt; run.err.as_slice(), err.as_bytes(), "the text");
+    }
     Ok(())
 }
 

@@ -4,11 +4,13 @@ ghost use Rattle.wire_io.specs.Sink.{Grows, KeepsRoom};
 ghost use Rattle.hoare_graph.specs.declared.verdict.Broken.{Broken};
 ghost use Rattle.edge_checker.specs.Rules.{IsValid};
 ghost use Rattle.foxdec_main.specs.Words.{Asked, Ask, check, request_of};
-ghost use Rattle.foxdec_main.specs.Ending.{Ending, output_of};
+ghost use Rattle.foxdec_main.specs.Ending.{Ending, file_refused, output_of, text_of};
 ghost use Rattle.foxdec_main.specs.VerdictLine.{valid_line, invalid_line};
 ghost use Rattle.foxdec_main.specs.Outcome.{Tells, ComesTo};
-ghost use Rattle.foxdec_main.specs.Outside.{HasTrouble, files_of, stream_of};
-ghost use Rattle.foxdec_main.specs.Promise.{Ends, Gives, GivesDue, SaysUnreadable, IsCutOff, IsAnswered, IsSilent, IsExcused, IsUnreadable, HoldsOf, AllowsBoth, IsFirstBroken};
+ghost use Rattle.foxdec_main.specs.declared.file_refusal.FileRefusal.{FileRefusal};
+ghost use Rattle.foxdec_main.specs.FileRefusal.{executable_refusal};
+ghost use Rattle.foxdec_main.specs.Outside.{HasTrouble, Says, files_of, stream_of};
+ghost use Rattle.foxdec_main.specs.Promise.{Ends, Gives, GivesDue, file_of, SaysUnreadable, SaysRefused, IsCutOff, IsAnswered, IsSilent, IsExcused, IsUnreadable, HoldsOf, AllowsBoth, IsFirstBroken};
 
 use crate::commands::answer;
 use crate::ending::{say_refusal, say_write_failed};
@@ -47,8 +49,8 @@ fn run<S: Shelf, O: Sink, E: Sink>(
 
 /// The program: does what the words after its name ask for, over the files of `shelf`, and gives
 /// its exit status. `check FILE GRAPH` reads the executable FILE and the graph GRAPH, each of at
-/// most 67,108,864 bytes. FILE is so far a base file (ELF-64, one loaded segment), GRAPH the text
-/// of one function with one vertex a site; every other file is "not built yet".
+/// most 67,108,864 bytes. FILE is an ELF-64 executable at fixed addresses for x86-64. GRAPH is so
+/// far the text of one function with one vertex a site; every other text is "not built yet".
 ///
 /// - 0: the graph is valid, and `valid` with a line feed is written to `out`.
 /// - 1: it is not, and `invalid FUNCTION SITE VERTEX CASE RULE` with a line feed is written, the
@@ -56,11 +58,12 @@ fn run<S: Shelf, O: Sink, E: Sink>(
 ///   number and the edge's in decimal, and the rule's name.
 /// - 2: the words are no command.
 /// - 3: a read of FILE or of GRAPH failed.
+/// - 4: FILE is refused as an executable, for the reason that the text names with its number.
 /// - 6: `out` failed or took nothing, before the last byte of the line.
 /// - 7: memory ran out.
-/// - 9: FILE, GRAPH, or the instruction at a site of the graph is not built yet.
+/// - 9: GRAPH, or a site of the graph, is not built yet.
 ///
-/// At 2, 3, 6, 7 and 9 a line on `err` says so, and of which file. A failure of `err` changes no
+/// At 2, 3, 4, 6, 7 and 9 a line on `err` says so, and of which file. A failure of `err` changes no
 /// status.
 pub fn foxdec<S: Shelf, O: Sink, E: Sink>(
     alloc: Global,
@@ -81,17 +84,29 @@ pub fn foxdec<S: Shelf, O: Sink, E: Sink>(
     ensures unreadable { (asked : Asked) → Ask words.now asked → result ≡ 3 →
         SaysUnreadable (files_of S.file S.faults shelf.old shelf.new)
         (stream_of E.written E.faults E.stalls err.old err.new) asked }
+    // 4 only where a refusal applies to the executable's file, and the text says which ..
+    ensures refused { (asked : Asked) → Ask words.now asked → result ≡ 4 →
+        SaysRefused (files_of S.file S.faults shelf.old shelf.new)
+        (stream_of E.written E.faults E.stalls err.old err.new) asked }
+    // .. and everywhere one does, but for a failed read, a failed write, or want of memory.
+    ensures all_refused { (asked : Asked) (bytes : List ℕ) (refusal : FileRefusal) →
+        Ask words.now asked → S.file shelf.old (file_of asked) ≡ Some bytes →
+        executable_refusal bytes ≡ Some refusal →
+        ((result ≡ 4) × Says (stream_of E.written E.faults E.stalls err.old err.new)
+        (text_of (file_refused (file_of asked) refusal)))
+        ⊎ IsExcused (files_of S.file S.faults shelf.old shelf.new)
+        (stream_of O.written O.faults O.stalls out.old out.new) asked result }
     // 6 only where `out` had trouble. It took a proper front of the due output, as the text says.
     ensures cut_off { (asked : Asked) → Ask words.now asked → result ≡ 6 →
         IsCutOff (files_of S.file S.faults shelf.old shelf.new)
         (stream_of O.written O.faults O.stalls out.old out.new)
         (stream_of E.written E.faults E.stalls err.old err.new) asked }
-    // 0, 1 and 9 only with the output and the text that the files come to.
+    // 0, 1, 4 and 9 only with the output and the text that the files come to.
     ensures answered { (asked : Asked) → Ask words.now asked → IsAnswered result →
         GivesDue (files_of S.file S.faults shelf.old shelf.new)
         (stream_of O.written O.faults O.stalls out.old out.new)
         (stream_of E.written E.faults E.stalls err.old err.new) asked result }
-    // At 2, 3, 7 and 9 nothing is written to `out`.
+    // At 2, 3, 4, 7 and 9 nothing is written to `out`.
     ensures silent { IsSilent result → O.written out.new ≡ O.written out.old }
 
     // What told files decide is given, unless a read or `out` failed or memory ran out.

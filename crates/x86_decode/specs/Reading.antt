@@ -150,3 +150,7 @@ decode_at addr bytes = do
 -- the instruction that stands here
 unfoldable pub instr_at : ℕ → List ℕ → Option Instr
 instr_at addr bytes = if is_endbr64 bytes then Some (endbr64_at addr) else decode_at addr bytes
+
+-- the instruction that the bytes begin with, at an address: at most 15 of them are looked at
+unfoldable pub first_instr : ℕ → List ℕ → Option Instr
+first_instr addr bytes = instr_at addr (take 15 bytes)

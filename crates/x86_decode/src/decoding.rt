@@ -2,7 +2,7 @@ ghost use Rattle.std.specs.Prelude.{◌≡◌, ◌≤◌, length, IfSome, None, 
 ghost use Rattle.x86_meaning.specs.declared.instr.Instr.{Instr};
 ghost use Rattle.x86_meaning.specs.Spells.{Spells, SpellsFront};
 ghost use Rattle.x86_meaning.specs.Fits.{InForm};
-ghost use Rattle.x86_decode.specs.Reading.{Gives, fields_at, decode_at, instr_at, encoding};
+ghost use Rattle.x86_decode.specs.Reading.{Gives, fields_at, decode_at, instr_at, first_instr, encoding};
 
 use crate::fields::{
     has_modrm_byte, imm_fits, imm_length, is_memory_operand, operand_fits, rex_bits,
@@ -109,8 +109,9 @@ fn front_of(bytes: &[u8]) -> &[u8]
     }
 }
 
-/// The instruction at `addr` that a front of the bytes spells.
+/// The instruction at `addr` that a front of the bytes spells: a function of the bytes and the address.
 pub fn decode(bytes: &[u8], addr: u64) -> Option<Instr>
+    ensures value { result ≡ first_instr addr bytes.now }
     ensures found { IfSome result (λ i. (i.addr ≡ addr) × SpellsFront i bytes.now) }
     ensures only { (i : Instr) → i.addr ≡ addr → SpellsFront i bytes.now → result ≡ Some i }
     ensures none { (result ≡ None) ↔ ((i : Instr) → i.addr ≡ addr → SpellsFront i bytes.now → ⊥) }

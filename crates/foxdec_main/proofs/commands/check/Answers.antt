@@ -1,14 +1,14 @@
 use Rattle.std.proofs.Common.{inl, subst, refl}
 use Rattle.foxdec_main.specs.Words.{check}
 use Rattle.foxdec_main.specs.VerdictLine.{judged}
-use Rattle.foxdec_main.specs.Outcome.{IsExecutable, IsGraphText, IsDue, Allows}
+use Rattle.foxdec_main.specs.Outcome.{IsExecutable, IsGraphText, IsRefusedFile, IsRefusedGraph, IsDue, Allows}
 use Rattle.foxdec_main.specs.Outside.{files_of}
 use Rattle.foxdec_main.specs.Promise.{IsShown, IsUnreadable}
 use Rattle.foxdec_main.specs.Taking.{IsOnlyOf, IsRefused, FailedRead}
 use Rattle.foxdec_main.specs.Seen.{refused_of, ending_of}
 use Rattle.edge_checker.specs.Breaks.{verdict_of}
 use Rattle.foxdec_main.proofs.ShownLemmas.{IsShown-map, IsShown-or_memory}
-use Rattle.foxdec_main.proofs.DueLemmas.{file_refused, graph_refused, verdict_due, graph_unreadable, verdict_shown}
+use Rattle.foxdec_main.proofs.DueLemmas.{file_due, graph_due, verdict_due, graph_unreadable, verdict_shown}
 use Rattle.foxdec_main.proofs.commands.check.Goals as goal
 
 pub returns-in-Err : goal.returns-in-Err
@@ -16,8 +16,8 @@ returns-in-Err g c =
     let file = c.args.file.now in
     let graph = c.args.graph.now in
     let files = files_of g.S.Shelf.file g.S.Shelf.faults c.args.shelf.now c.take_executable.new.shelf in
-    IsShown-map (IsRefused IsExecutable (files.told file) file) (IsDue files.told (check file graph)) (FailedRead files file) (IsUnreadable files (check file graph)) ⊥ ⊥
-    (file_refused files.told file graph) (λ name failed. (inl failed.0, failed.1)) (λ none. none) (refused_of c.in-Err.refusal) c.in-Err.ensures.err
+    IsShown-map (IsRefused (IsRefusedFile file) (files.told file)) (IsDue files.told (check file graph)) (FailedRead files file) (IsUnreadable files (check file graph)) ⊥ ⊥
+    (file_due files.told file graph) (λ name failed. (inl failed.0, failed.1)) (λ none. none) (refused_of c.in-Err.refusal) c.in-Err.ensures.err
 
 pub returns-in-Err-take_graph : goal.returns-in-Err-take_graph
 returns-in-Err-take_graph g c =
@@ -27,10 +27,10 @@ returns-in-Err-take_graph g c =
     let later = files_of g.S.Shelf.file g.S.Shelf.faults c.take_executable.new.shelf c.take_graph.new.shelf in
     let goes = c.take_executable.ensures.shelf in
     let refusal = refused_of c.in-Err-take_graph.refusal in
-    let came : IsShown (IsRefused IsGraphText (files.told graph) graph) (FailedRead later graph) ⊥ refusal =
-    subst (λ told. IsShown (IsRefused IsGraphText (told graph) graph) (FailedRead later graph) ⊥ refusal) goes.same c.in-Err-take_graph.ensures.err in
-    IsShown-map (IsRefused IsGraphText (files.told graph) graph) (IsDue files.told (check file graph)) (FailedRead later graph) (IsUnreadable files (check file graph)) ⊥ ⊥
-    (graph_refused files.told file graph c.in-Ok.image c.in-Ok.ensures.found)
+    let came : IsShown (IsRefused (IsRefusedGraph graph) (files.told graph)) (FailedRead later graph) ⊥ refusal =
+    subst (λ told. IsShown (IsRefused (IsRefusedGraph graph) (told graph)) (FailedRead later graph) ⊥ refusal) goes.same c.in-Err-take_graph.ensures.err in
+    IsShown-map (IsRefused (IsRefusedGraph graph) (files.told graph)) (IsDue files.told (check file graph)) (FailedRead later graph) (IsUnreadable files (check file graph)) ⊥ ⊥
+    (graph_due files.told file graph c.in-Ok.image c.in-Ok.ensures.found)
     (graph_unreadable files.told file graph c.in-Ok.image c.in-Ok.ensures.found files.faults later.faults later.later_faults goes.rises)
     (λ none. none) refusal came
 

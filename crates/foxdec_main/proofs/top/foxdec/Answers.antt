@@ -1,5 +1,5 @@
 use Rattle.foxdec_main.proofs.PromiseLemmas.{two, unreadable, cut, answers, silent_written, decides, completes}
-use Rattle.foxdec_main.proofs.CheckLemmas.{only_valid, all_valid, only_broken, all_broken}
+use Rattle.foxdec_main.proofs.CheckLemmas.{only_refused, all_refused, only_valid, all_valid, only_broken, all_broken}
 use Rattle.foxdec_main.proofs.top.foxdec.Goals as goal
 
 pub returns-clause-words : goal.returns-clause-words
@@ -7,6 +7,12 @@ returns-clause-words g c = two _ _ _ _ _ c.run.ensures.ends
 
 pub returns-clause-unreadable : goal.returns-clause-unreadable
 returns-clause-unreadable g c asked request is = unreadable _ _ _ _ asked is (rw request at c.run.ensures.ends)
+
+pub returns-clause-refused : goal.returns-clause-refused
+returns-clause-refused g c asked request is = only_refused _ _ _ asked _ (rw request at c.run.ensures.ends) is
+
+pub returns-clause-all_refused : goal.returns-clause-all_refused
+returns-clause-all_refused g c asked bytes refusal request told applies = all_refused _ _ _ asked _ (rw request at c.run.ensures.ends) bytes refusal told applies
 
 pub returns-clause-cut_off : goal.returns-clause-cut_off
 returns-clause-cut_off g c asked request is = cut _ _ _ _ asked is (rw request at c.run.ensures.ends)

@@ -1,8 +1,12 @@
 -- What the first 15 bytes give is what a front of all bytes spells.
 use Rattle.std.proofs.Common.{arith, ap, ◌∙◌, sym}
-use Rattle.x86_decode.specs.Reading.{instr_at}
+use Rattle.x86_decode.specs.Reading.{instr_at, first_instr}
 use Rattle.x86_decode.proofs.DecodeLemmas.{all_found, all_in_form, is_only, none_is}
 use Rattle.x86_decode.proofs.decoding.decode.Goals as goal
+
+pub returns-clause-value : goal.returns-clause-value
+unfolding first_instr
+returns-clause-value c = c.decode_front.ensures ∙ ap (instr_at c.args.addr) c.front_of.ensures.value
 
 pub returns-clause-found : goal.returns-clause-found
 returns-clause-found c =
