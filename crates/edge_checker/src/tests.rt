@@ -3,7 +3,7 @@ ghost use Rattle.std.specs.Prelude.{◌≡◌, [], ◌∷◌, IfOk};
 ghost use Rattle.hoare_graph.specs.WellFormed.{IsVertex, IsWellFormed};
 
 use super::*;
-use elf_image::read_elf;
+use elf_image::{Image, Segment};
 use hoare_graph::{
     Broken, Function, Graph, Kind, Pred, Rule, Site, Term, Verdict, Vertex, read_graph,
 };
@@ -11,22 +11,32 @@ use sqlite_items::Items;
 use std::alloc::{AllocError, Global};
 use std::test::Fail;
 
-// The executable of `mov rax, -1`, `ret` and a byte that is not built, from ELF-64's tables of the two headers.
-const FILE: &[u8; 132] = b"\x7fELF\x02\x01\x01\0\0\0\0\0\0\0\0\0\
-\x02\0\x3e\0\x01\0\0\0\x78\0\x40\0\0\0\0\0\
-\x40\0\0\0\0\0\0\0\0\0\0\0\0\0\0\0\
-\0\0\0\0\x40\0\x38\0\x01\0\0\0\0\0\0\0\
-\x01\0\0\0\x05\0\0\0\0\0\0\0\0\0\0\0\
-\0\0\x40\0\0\0\0\0\0\0\x40\0\0\0\0\0\
-\x84\0\0\0\0\0\0\0\x84\0\0\0\0\0\0\0\
-\0\x10\0\0\0\0\0\0\
-\x48\xb8\xff\xff\xff\xff\xff\xff\xff\xff\xc3\xcc";
+// `mov rax, -1`, `ret` and a byte that is not built.
+const CODE: [u8; 12] = [
+    0x48, 0xb8, 255, 255, 255, 255, 255, 255, 255, 255, 0xc3, 0xcc,
+];
 
 const HEAD: &str = "foxdec graph 1\nf 400078 65536 4096\n";
 
 const MOVE: &str = "s 400078 step\nv 0\nc [rsp0;8]=ra\n> 400082:0\n";
 
 const RETURN: &str = "s 400082 ret\nv 0\nr rax=-1\nc [rsp0;8]=ra\n";
+
+fn image(alloc: Global) -> Result<Image, AllocError> {
+    let segment = Segment {
+        lo: 0x40_0078,
+        size: 12,
+        bytes: Items::from_slice(alloc, &CODE)?,
+        exec: true,
+        write: false,
+    };
+    let mut segs = Items::new(alloc);
+    segs.push(segment)?;
+    Ok(Image {
+        entry: 0x40_0078,
+        segs,
+    })
+}
 
 fn broken_at(site: u64, rule: Rule) -> Verdict {
     Verdict::Invalid(Broken {
@@ -44,7 +54,7 @@ fn verdict(alloc: Global, first: &str, second: &str) -> Result<Verdict, Fail> {
     for part in [HEAD, first, second, "end\n"] {
         text.extend_from_slice(part.as_bytes())?;
     }
-    let image = read_elf(alloc, FILE)?;
+    let image = image(alloc)?;
     let graph = read_graph(alloc, &text)?;
     Ok(check(alloc, &image, &graph, None)?)
 }
@@ -108,13 +118,8 @@ fn graph_with_two_edges(alloc: Global) -> Result<Graph, AllocError>
 }
 
 #[test]
-<<<<<<< HEAD
-fn a_step_with_two_edges_breaks_cases(rt: HostRuntime) -> Result<(), Fail> {
-    let image = read_elf(rt.alloc(), FILE)?;
-=======
 fn a_step_with_two_edges_is_not_built(rt: HostRuntime) -> Result<(), Fail> {
     let image = image(rt.alloc())?;
->>>>>>> ba2fb7f
     let graph = graph_with_two_edges(rt.alloc())?;
     let answer = check(rt.alloc(), &image, &graph, None)?;
     assert_eq!(rt; answer, Verdict::NotBuilt { site: 0x40_0078 });

@@ -15,15 +15,9 @@ use Rattle.foxdec_main.specs.FileRefusal.{executable_refusal}
 use Rattle.foxdec_main.specs.Words.{Asked, check}
 use Rattle.foxdec_main.specs.Ending.{Ending, file_refused, status_of, output_of, text_of}
 use Rattle.foxdec_main.specs.VerdictLine.{judged, valid_line, invalid_line}
-<<<<<<< HEAD
-use Rattle.foxdec_main.specs.Outcome.{IsExecutable, IsGraphText, Allows, IsNoFormOf, ComesTo}
-use Rattle.foxdec_main.specs.Outside.{Files, Stream, Adds}
-use Rattle.foxdec_main.specs.Promise.{Gives, Ends, IsExcused, GivesDue, HoldsOf, AllowsBoth, IsFirstBroken}
-=======
 use Rattle.foxdec_main.specs.Outcome.{IsExecutable, IsGraphText, IsRefusedFile, IsRefusedGraph, Tells, Allows, Takes, ComesTo}
 use Rattle.foxdec_main.specs.Outside.{Files, Stream, Adds, Says}
 use Rattle.foxdec_main.specs.Promise.{Gives, Ends, IsExcused, GivesDue, file_of, SaysRefused, HoldsOf, AllowsBoth, IsFirstBroken}
->>>>>>> ba2fb7f
 use Rattle.foxdec_main.proofs.PromiseLemmas.{answers, decides}
 
 -- the verdict of an ending with status 0

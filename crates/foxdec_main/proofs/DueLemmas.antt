@@ -1,21 +1,13 @@
 -- The endings that are due for `check`: the executable refused, the graph refused, or the verdict.
-use Rattle.std.proofs.Common.{◌≡◌, inr, ℕ, ◌≤◌, List, sym, ◌∙◌, arith}
+use Rattle.std.proofs.Common.{◌≡◌, inl, inr, ℕ, ◌≤◌, List, sym, ◌∙◌, ap, subst, arith}
 use Rattle.std.specs.declared.option.Option.{Option}
 use Rattle.wire_io.specs.Counts.{Rose}
+use Rattle.wire_io.specs.Shelf.{GoesOn}
 use Rattle.elf_image.specs.declared.image.Image.{Image}
 use Rattle.hoare_graph.specs.declared.graph.Graph.{Graph}
 use Rattle.hoare_graph.specs.declared.verdict.Verdict.{Verdict}
 use Rattle.hoare_graph.specs.declared.verdict.Verdict.TheVariants.{Valid, Invalid, NotBuilt}
 use Rattle.edge_checker.specs.Breaks.{verdict_of}
-<<<<<<< HEAD
-use Rattle.foxdec_main.specs.Words.{check}
-use Rattle.foxdec_main.specs.Ending.{Ending, not_built}
-use Rattle.foxdec_main.specs.VerdictLine.{judged}
-use Rattle.foxdec_main.specs.Outcome.{IsExecutable, IsGraphText, Tells, Allows, Takes, IsDue, Reads}
-use Rattle.foxdec_main.specs.Promise.{IsShown}
-use Rattle.foxdec_main.specs.Taking.{IsOnlyOf, IsRefused}
-use Rattle.foxdec_main.proofs.TakingLemmas.{refused_allowed, refused_decided, taken_allowed, taken_decided}
-=======
 use Rattle.foxdec_main.specs.Words.{Asked, check}
 use Rattle.foxdec_main.specs.Ending.{Ending}
 use Rattle.foxdec_main.specs.VerdictLine.{judged}
@@ -24,7 +16,6 @@ use Rattle.foxdec_main.specs.Outside.{Files, ReadFailed}
 use Rattle.foxdec_main.specs.Promise.{IsShown, IsUnreadable}
 use Rattle.foxdec_main.specs.Taking.{IsOnlyOf, IsRefused, FailedRead}
 use Rattle.foxdec_main.proofs.TakingLemmas.{executable_refuses, graph_refuses, refused_allowed, refused_decided, taken_allowed, taken_decided}
->>>>>>> ba2fb7f
 
 -- what comes of a graph's bytes once the image is known
 abbrev pub Rest : List ℕ → Ending → Image → Graph → Type 0

@@ -2,14 +2,10 @@
 use Rattle.std.proofs.Common.{◌≡◌, ◌⊎◌, ◌↔◌, inl, inr, ℕ, ◌<◌, List, [], true, false, refl, sym, ◌∙◌, ap, subst, Some, None, arith, lit<}
 use Rattle.std.specs.declared.option.Option.{Option}
 use Rattle.foxdec_main.specs.Words.{Asked}
-<<<<<<< HEAD
-use Rattle.foxdec_main.specs.Ending.{Ending, printed, not_a_command, read_failed, not_built, site_not_built, write_failed, out_of_memory, status_of}
-=======
 use Rattle.foxdec_main.specs.Ending.{Ending, printed, not_a_command, read_failed, file_refused, not_built, site_not_built, write_failed, out_of_memory, status_of, output_of}
->>>>>>> ba2fb7f
 use Rattle.foxdec_main.specs.Outcome.{Tells, ComesTo, IsDue}
 use Rattle.foxdec_main.specs.Outside.{Files, Stream, HasTrouble, Adds}
-use Rattle.foxdec_main.specs.Promise.{IsShown, IsUnreadable, Gives, Ends, IsExcused, IsAnswered, IsSilent, GivesDue, SaysUnreadable, IsCutOff}
+use Rattle.foxdec_main.specs.Promise.{IsShown, IsUnreadable, IsCaused, Gives, Ends, IsExcused, IsAnswered, IsSilent, GivesDue, SaysUnreadable, IsCutOff}
 use Rattle.foxdec_main.proofs.TextLemmas.{Grows-refl}
 
 -- the status of an answer is none of these

@@ -3,11 +3,11 @@ use Rattle.std.proofs.Common.{◌≡◌, ◌⊎◌, inl, inr, ⊎_elim, ℕ, ◌
 use Rattle.std.specs.declared.option.Option.{Option}
 use Rattle.std.specs.Io.KnownBytes.{append_known}
 use Rattle.wire_io.specs.Counts.{Rose}
-use Rattle.wire_io.specs.Sink.{IsFull, KeepsRoom}
+use Rattle.wire_io.specs.Sink.{Grows, IsFull, KeepsRoom}
 use Rattle.foxdec_main.specs.Words.{Asked}
 use Rattle.foxdec_main.specs.Ending.{Ending, printed, output_of}
 use Rattle.foxdec_main.specs.Outcome.{Tells, ComesTo}
-use Rattle.foxdec_main.specs.Outside.{Files, Stream, ReadFailed, Adds}
+use Rattle.foxdec_main.specs.Outside.{Files, Stream, ReadFailed, HasTrouble, Adds}
 use Rattle.foxdec_main.specs.Promise.{Gives, Ends, IsCutOff}
 use Rattle.foxdec_main.proofs.PromiseLemmas.{Ways, ways}
 

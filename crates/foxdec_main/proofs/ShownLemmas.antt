@@ -1,5 +1,5 @@
 -- How what shows an ending is carried from one step of a command to the whole of it.
-use Rattle.std.proofs.Common.{⊎_elim, ℕ, ◌<◌, List, length, Bool, sym, subst, Result, Ok, Err, IfErr, Some, None}
+use Rattle.std.proofs.Common.{◌≡◌, ◌⊎◌, ⊎_elim, ℕ, ◌<◌, List, length, Bool, sym, subst, Result, Ok, Err, IfErr, Some, None}
 use Rattle.std.specs.declared.option.Option.{Option}
 use Rattle.foxdec_main.specs.Words.{Asked}
 use Rattle.foxdec_main.specs.Ending.{Ending, printed, not_a_command, read_failed, file_refused, not_built, site_not_built, write_failed, out_of_memory}

@@ -1,12 +1,4 @@
 -- Files that are taken as values one after another, and the ending that they come to.
-<<<<<<< HEAD
-use Rattle.std.proofs.Common.{◌≡◌, inl, inr, ℕ, ◌≤◌, List, [], length, refl, sym, ◌∙◌, subst, Some, None, arith}
-use Rattle.std.specs.declared.option.Option.{Option}
-use Rattle.wire_io.specs.Shelf.{IsAll, IsLonger}
-use Rattle.foxdec_main.specs.Ending.{Ending}
-use Rattle.foxdec_main.specs.Outcome.{limit, IsExecutable, IsGraphText, Tells, Allows, IsNoFormOf, Takes}
-use Rattle.foxdec_main.specs.Taking.{IsOnlyOf, IsFormless, IsRefused}
-=======
 use Rattle.std.proofs.Common.{◌≡◌, ◌⊎◌, inl, inr, ℕ, ◌+◌, ◌<◌, ◌≤◌, zero, suc, List, [], ◌∷◌, length, refl, sym, ◌∙◌, ap, subst, Some, None, arith, lit<}
 use Rattle.std.specs.declared.option.Option.{Option}
 use Rattle.wire_io.specs.Shelf.{IsAll, IsLonger}
@@ -33,7 +25,6 @@ graph_refuses graph = record {
   clash = λ bytes e g refused form. refused.no_text g form;
   one = λ bytes d e p q. p.says ∙ sym q.says;
 }
->>>>>>> ba2fb7f
 
 -- bytes that are all of a file refuse it
 pub IsRefused-all : (Refused : List ℕ → Ending → Type 0) (told : Option (List ℕ)) (bytes : List ℕ) → IsAll bytes told → (e : Ending) → Refused bytes e → IsRefused Refused told e

@@ -6,7 +6,7 @@ use Rattle.std.proofs.Math.Seq.{take-suc, take-append-add}
 use Rattle.std.specs.List.{flat_map}
 use Rattle.std.specs.declared.option.Option.{Option}
 use Rattle.wire_io.specs.Sink.{Grows}
-use Rattle.foxdec_main.specs.Outside.{Says}
+use Rattle.foxdec_main.specs.Outside.{Stream, Says}
 
 -- a stream that was not written to has grown by nothing
 pub Grows-refl : (told : Option (List ℕ)) → Grows told told []

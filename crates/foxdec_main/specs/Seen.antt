@@ -1,5 +1,5 @@
 -- The program's own types as plain data.
-use Rattle.std.specs.Prelude.{string_bytes, Result, Ok, Err}
+use Rattle.std.specs.Prelude.{List, ℕ, string_bytes, Result, Ok, Err}
 use Rattle.foxdec_main.specs.Words.{Asked, check}
 use Rattle.foxdec_main.specs.Ending.{Ending, printed, not_a_command, read_failed, file_refused, not_built, site_not_built, out_of_memory}
 use Rattle.foxdec_main.specs.declared.words.Request.{Request}

@@ -1,4 +1,4 @@
-use Rattle.std.proofs.Common.{inl, subst, refl}
+use Rattle.std.proofs.Common.{inl, List, ℕ, subst, refl}
 use Rattle.foxdec_main.specs.Words.{check}
 use Rattle.foxdec_main.specs.VerdictLine.{judged}
 use Rattle.foxdec_main.specs.Outcome.{IsExecutable, IsGraphText, IsRefusedFile, IsRefusedGraph, IsDue, Allows}

@@ -1,3 +1,4 @@
+use Rattle.std.proofs.Common.{append_assoc}
 use Rattle.foxdec_main.proofs.ending.say_refusal.Goals as goal
 
 pub returns-in-NotACommand : goal.returns-in-NotACommand
