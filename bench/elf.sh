@@ -46,9 +46,10 @@ def timed(words, path):
     return best, peak
 
 size = mebibytes << 20
-path = write(size)
-spent, peak = timed([program], path)
-cat, _ = timed(["cat"], path)
+spent, peak = timed([program], write(size))
+cat, _ = timed(["cat"], os.path.join(work, f"{size}.elf"))
+_, base = timed([program], write(1 << 16))
 print(f"{mebibytes} MiB read in {spent:.3f} s, `cat` takes {cat:.3f} s: {spent / cat:.1f} times as long")
-print(f"peak memory {peak / 2**20:.1f} MiB, {peak / size:.2f} times the file, with the 1 to 2 MiB that every process takes")
+print(f"peak memory {peak / 2**20:.1f} MiB, {(peak - base) / size:.2f} times the file beside the "
+      f"{base / 2**20:.1f} MiB that reading 64 KiB takes")
 PY
