@@ -45,11 +45,21 @@ def timed(words, path):
         peak = usage.ru_maxrss * 1024
     return best, peak
 
+# The most memory of the program itself, while it waits for the first byte.
+def own(words):
+    child = subprocess.Popen(words, stdin=subprocess.PIPE, stdout=subprocess.DEVNULL, stderr=subprocess.DEVNULL)
+    time.sleep(0.5)
+    with open(f"/proc/{child.pid}/status") as status:
+        kibibytes = next(int(line.split()[1]) for line in status if line.startswith("VmHWM"))
+    child.communicate()
+    return kibibytes * 1024
+
 size = mebibytes << 20
-spent, peak = timed([program], write(size))
-cat, _ = timed(["cat"], os.path.join(work, f"{size}.elf"))
-_, base = timed([program], write(1 << 16))
+path = write(size)
+spent, peak = timed([program], path)
+cat, _ = timed(["cat"], path)
+base = own([program])
 print(f"{mebibytes} MiB read in {spent:.3f} s, `cat` takes {cat:.3f} s: {spent / cat:.1f} times as long")
-print(f"peak memory {peak / 2**20:.1f} MiB, {(peak - base) / size:.2f} times the file beside the "
-      f"{base / 2**20:.1f} MiB that reading 64 KiB takes")
+print(f"peak memory {peak / 2**20:.1f} MiB: {(peak - base) / size:.2f} times the file, "
+      f"and {base / 2**20:.1f} MiB of the program itself")
 PY
