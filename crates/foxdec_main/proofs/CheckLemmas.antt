@@ -1,5 +1,5 @@
 -- What follows of `check`: valid graphs, and the first broken rule.
-use Rattle.std.proofs.Common.{◌≡◌, ◌⊎◌, inl, inr, ℕ, ◌<◌, List, refl, sym, ◌∙◌, ap, subst, Some, arith}
+use Rattle.std.proofs.Common.{◌≡◌, ◌⊎◌, true, inl, inr, ℕ, ◌<◌, List, refl, sym, ◌∙◌, ap, subst, Some, arith}
 use Rattle.std.specs.declared.option.Option.{Option}
 use Rattle.wire_io.specs.Shelf.{IsAll}
 use Rattle.elf_image.specs.declared.image.Image.{Image}
@@ -12,12 +12,13 @@ use Rattle.edge_checker.specs.Rules.{IsValid}
 use Rattle.edge_checker.proofs.ValidLemmas.{valid_exactly}
 use Rattle.foxdec_main.specs.declared.file_refusal.FileRefusal.{FileRefusal}
 use Rattle.foxdec_main.specs.FileRefusal.{executable_refusal}
-use Rattle.foxdec_main.specs.Words.{Asked, check}
-use Rattle.foxdec_main.specs.Ending.{Ending, file_refused, status_of, output_of, text_of}
+use Rattle.foxdec_main.specs.Words.{Asked, check, show}
+use Rattle.foxdec_main.specs.Ending.{Ending, printed, file_refused, status_of, output_of, text_of}
+use Rattle.foxdec_main.specs.Listing.{listing}
 use Rattle.foxdec_main.specs.VerdictLine.{judged, valid_line, invalid_line}
 use Rattle.foxdec_main.specs.Outcome.{IsExecutable, IsGraphText, IsRefusedFile, IsRefusedGraph, Tells, Allows, Takes, ComesTo}
 use Rattle.foxdec_main.specs.Outside.{Files, Stream, Adds, Says}
-use Rattle.foxdec_main.specs.Promise.{Gives, Ends, IsExcused, GivesDue, file_of, SaysRefused, HoldsOf, AllowsBoth, IsFirstBroken}
+use Rattle.foxdec_main.specs.Promise.{Gives, Ends, IsExcused, GivesDue, file_of, SaysRefused, AddsListing, HoldsOf, AllowsBoth, IsFirstBroken}
 use Rattle.foxdec_main.proofs.PromiseLemmas.{answers, decides}
 
 -- the verdict of an ending with status 0
@@ -47,10 +48,13 @@ module _ (told : List ℕ → Option (List ℕ)) (e : Ending) (four : status_of 
   pub refused_file : (asked : Asked) → ComesTo Allows told asked e → Allows (told (file_of asked)) (λ bytes. IsRefusedFile (file_of asked) bytes e)
   refused_file (check file graph) (bytes, all, inl refused) = (bytes, all, refused)
   refused_file (check file graph) (bytes, all, inr taken) = absurd (graph_passed graph taken.0 taken.2)
+  refused_file (show file address count) (bytes, all, inl refused) = (bytes, all, refused)
+  refused_file (show file address count) (bytes, all, inr taken) = absurd (omega (arith, four, ap status_of taken.2))
 
 -- and the refusal of a told file decides the ending
 pub refusal_told : (told : List ℕ → Option (List ℕ)) (asked : Asked) (bytes : List ℕ) (refusal : FileRefusal) → told (file_of asked) ≡ Some bytes → executable_refusal bytes ≡ Some refusal → ComesTo Tells told asked (file_refused (file_of asked) refusal)
 refusal_told told (check file graph) bytes refusal is applies = (bytes, is, inl (record { refusal = refusal; applies = applies; says = refl }))
+refusal_told told (show file address count) bytes refusal is applies = (bytes, is, inl (record { refusal = refusal; applies = applies; says = refl }))
 
 module _ (files : Files) (out err : Stream) (asked : Asked) (status : ℕ) (ends : Ends files out err (Some asked) status) where
   -- 4 only where the executable is refused, as the text says
@@ -158,3 +162,26 @@ module _ (files : Files) (out err : Stream) (file graph : List ℕ) (status : �
   pub all_broken : (bytes text : List ℕ) → files.told file ≡ Some bytes → files.told graph ≡ Some text → (broken : Broken) → HoldsOf (IsFirstBroken broken) bytes text
       → ((status ≡ 1) × Adds out (invalid_line broken)) ⊎ IsExcused files out (check file graph) status
   all_broken bytes text file_is graph_is broken of = broken_given broken (verdict_given bytes text file_is graph_is (Invalid broken) of)
+
+module _ (files : Files) (out err : Stream) (file : List ℕ) (address count status : ℕ) (ends : Ends files out err (Some (show file address count)) status) where
+  shown_at : (e : Ending) → status_of e ≡ 0 → Adds out (output_of e) → ComesTo Allows files.told (show file address count) e → Allows (files.told file) (AddsListing out address count)
+  shown_at e zero adds (bytes, all, inl refused) = absurd (omega (arith, zero, ap status_of refused.says))
+  shown_at e zero adds (bytes, all, inr taken) = (bytes, all, (taken.0, taken.1, subst (Adds out) (ap output_of taken.2) adds))
+
+  shown_of : status ≡ 0 → GivesDue files out err (show file address count) status → Allows (files.told file) (AddsListing out address count)
+  shown_of zero given = shown_at given.ending (sym given.gives.status_is ∙ zero) given.gives.output given.due.allowed
+
+  -- 0 only with the listing of an executable
+  pub only_shown : status ≡ 0 → Allows (files.told file) (AddsListing out address count)
+  only_shown zero = shown_of zero (answers files out err status (show file address count) (inl zero) ends)
+
+  listing_given : (image : Image) → Gives out err status (printed true (listing image count address)) ⊎ IsExcused files out (show file address count) status
+      → ((status ≡ 0) × Adds out (listing image count address)) ⊎ IsExcused files out (show file address count) status
+  listing_given image (inl gives) = inl (gives.status_is, gives.output)
+  listing_given image (inr excused) = inr excused
+
+  -- everywhere the file is one, 0 and the listing
+  pub all_shown : (bytes : List ℕ) (image : Image) → files.told file ≡ Some bytes → IsExecutable bytes image
+      → ((status ≡ 0) × Adds out (listing image count address)) ⊎ IsExcused files out (show file address count) status
+  all_shown bytes image is form =
+      listing_given image (decides files out err status (show file address count) (printed true (listing image count address)) (bytes, is, inr (image, form, refl)) ends)

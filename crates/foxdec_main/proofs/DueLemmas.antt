@@ -1,5 +1,5 @@
 -- The endings that are due for `check`: the executable refused, the graph refused, or the verdict.
-use Rattle.std.proofs.Common.{◌≡◌, inl, inr, ℕ, ◌≤◌, List, sym, ◌∙◌, ap, subst, arith}
+use Rattle.std.proofs.Common.{◌≡◌, inl, inr, ℕ, ◌≤◌, List, true, refl, sym, ◌∙◌, ap, subst, arith}
 use Rattle.std.specs.declared.option.Option.{Option}
 use Rattle.wire_io.specs.Counts.{Rose}
 use Rattle.wire_io.specs.Shelf.{GoesOn}
@@ -8,9 +8,10 @@ use Rattle.hoare_graph.specs.declared.graph.Graph.{Graph}
 use Rattle.hoare_graph.specs.declared.verdict.Verdict.{Verdict}
 use Rattle.hoare_graph.specs.declared.verdict.Verdict.TheVariants.{Valid, Invalid, NotBuilt}
 use Rattle.edge_checker.specs.Breaks.{verdict_of}
-use Rattle.foxdec_main.specs.Words.{Asked, check}
-use Rattle.foxdec_main.specs.Ending.{Ending}
+use Rattle.foxdec_main.specs.Words.{Asked, check, show}
+use Rattle.foxdec_main.specs.Ending.{Ending, printed}
 use Rattle.foxdec_main.specs.VerdictLine.{judged}
+use Rattle.foxdec_main.specs.Listing.{listing}
 use Rattle.foxdec_main.specs.Outcome.{IsExecutable, IsGraphText, IsRefusedFile, IsRefusedGraph, Tells, Allows, Takes, IsDue, Reads}
 use Rattle.foxdec_main.specs.Outside.{Files, ReadFailed}
 use Rattle.foxdec_main.specs.Promise.{IsShown, IsUnreadable}
@@ -62,6 +63,22 @@ module _ (told : List ℕ → Option (List ℕ)) (file graph : List ℕ) where
       inr (failed.0, (only.0, only.1, (image, only.2.form))),
       omega (arith, rises name, failed.1),
     )
+
+module _ (told : List ℕ → Option (List ℕ)) (file : List ℕ) (address count : ℕ) where
+  -- the executable that is to be shown is refused
+  pub show_refused : (e : Ending) → IsRefused (IsRefusedFile file) (told file) e → IsDue told (show file address count) e
+  show_refused e refused = record {
+    allowed = refused_allowed IsExecutable (IsRefusedFile file) (told file) e refused (λ image. e ≡ printed true (listing image count address));
+    decided = λ other. refused_decided IsExecutable (IsRefusedFile file) (told file) e refused (executable_refuses file) (λ image. other ≡ printed true (listing image count address)) other;
+  }
+
+  -- the listing of its image
+  pub listing_due : (image : Image) → Allows (told file) (λ bytes. IsOnlyOf IsExecutable bytes image) → IsDue told (show file address count) (printed true (listing image count address))
+  listing_due image only =
+      let e = printed true (listing image count address) in record {
+        allowed = taken_allowed IsExecutable (IsRefusedFile file) (told file) image only e (λ image. e ≡ printed true (listing image count address)) refl;
+        decided = λ other. taken_decided IsExecutable (IsRefusedFile file) (told file) image only (executable_refuses file) e other (λ image. other ≡ printed true (listing image count address)) (λ came. sym came);
+      }
 
 -- a verdict shows itself
 pub verdict_shown : (Due : Ending → Type 0) (Failed : List ℕ → Type 0) (graph : List ℕ) (v : Verdict) → Due (judged graph v) → IsShown Due Failed ⊥ (judged graph v)

@@ -3,6 +3,8 @@ pub mod TakingLemmas
 pub mod FileLemmas
 pub mod DueLemmas
 pub mod TextLemmas
+pub mod WordLemmas
+pub mod ListingLemmas
 pub mod PromiseLemmas
 pub mod CheckLemmas
 pub mod QuietLemmas

@@ -6,6 +6,10 @@ use Rattle.std.proofs.Math.Seq.{take-suc, take-append-add}
 use Rattle.std.specs.List.{flat_map}
 use Rattle.std.specs.declared.option.Option.{Option}
 use Rattle.wire_io.specs.Sink.{Grows}
+use Rattle.foxdec_main.specs.declared.ending.Refusal.{Refusal}
+use Rattle.foxdec_main.specs.declared.ending.Refusal.TheVariants.{NotACommand, ReadFailed, FileRefused, NotBuilt, SiteNotBuilt, OutOfMemory}
+use Rattle.foxdec_main.specs.Ending.{output_of}
+use Rattle.foxdec_main.specs.Seen.{refused_of}
 use Rattle.foxdec_main.specs.Outside.{Stream, Says}
 
 -- a stream that was not written to has grown by nothing
@@ -16,6 +20,15 @@ Grows-refl (Some bytes) = ap (λ (l : List ℕ). Some l) (sym (append-nil bytes)
 -- and no text was said on it
 pub Says-nothing : (told : Option (List ℕ)) (faults stalls : ℕ) → Says (record { written = told; later_written = told; faults = faults; later_faults = faults; stalls = stalls; later_stalls = stalls }) []
 Says-nothing told faults stalls = record { front = (0, Grows-refl told); whole = inr (Grows-refl told) }
+
+-- a refusal writes nothing to the output
+pub refused_silent : (told : Option (List ℕ)) (refusal : Refusal) → Grows told told (output_of (refused_of refusal))
+refused_silent told NotACommand = Grows-refl told
+refused_silent told (ReadFailed name) = Grows-refl told
+refused_silent told (FileRefused name refusal) = Grows-refl told
+refused_silent told (NotBuilt name) = Grows-refl told
+refused_silent told (SiteNotBuilt name site) = Grows-refl told
+refused_silent told OutOfMemory = Grows-refl told
 
 module _ {X : Type 0} (f : X → List ℕ) (xs : List X) (i : ℕ) (d : X) (at : i < length xs) where
   -- the pieces up to one and that one

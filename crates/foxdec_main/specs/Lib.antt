@@ -2,6 +2,7 @@ pub mod Words
 pub mod FileRefusal
 pub mod Ending
 pub mod VerdictLine
+pub mod Listing
 pub mod Outcome
 pub mod Outside
 pub mod Promise

@@ -1,5 +1,5 @@
 -- What the files of a command come to, as far as their bytes are told.
-use Rattle.std.specs.Prelude.{◌≡◌, ◌⊎◌, ℕ, ◌≤◌, List, length, Some, None}
+use Rattle.std.specs.Prelude.{◌≡◌, ◌⊎◌, ℕ, ◌≤◌, List, length, true, Some, None}
 use Rattle.std.specs.declared.option.Option.{Option}
 use Rattle.wire_io.specs.Shelf.{IsAll}
 use Rattle.elf_image.specs.declared.image.Image.{Image}
@@ -8,11 +8,12 @@ use Rattle.hoare_graph.specs.declared.graph.Graph.{Graph}
 use Rattle.hoare_graph.specs.FirstPath.{IsFirstPath}
 use Rattle.hoare_graph.specs.Text.{graph_text}
 use Rattle.edge_checker.specs.Breaks.{verdict_of}
-use Rattle.foxdec_main.specs.Words.{Asked, check}
+use Rattle.foxdec_main.specs.Words.{Asked, check, show}
 use Rattle.foxdec_main.specs.declared.file_refusal.FileRefusal.{FileRefusal}
 use Rattle.foxdec_main.specs.FileRefusal.{limit, executable_refusal}
-use Rattle.foxdec_main.specs.Ending.{Ending, file_refused, not_built}
+use Rattle.foxdec_main.specs.Ending.{Ending, printed, file_refused, not_built}
 use Rattle.foxdec_main.specs.VerdictLine.{judged}
+use Rattle.foxdec_main.specs.Listing.{listing}
 
 -- No refusal applies to the bytes, and this is their image.
 pub record IsExecutable (bytes : List ℕ) (image : Image) : Type 0 where
@@ -50,13 +51,17 @@ abbrev pub Takes : {X : Type 0} → (List ℕ → X → Type 0) → (List ℕ �
 Takes {X = X} Form Refused Next bytes = Refused bytes ⊎ ((x : X) × Form bytes x × Next x)
 
 -- The ending that files come to. `check` takes the executable first, then the graph, and then the
--- verdict of both. `Of` says of which bytes of a file it speaks: the told ones, or any allowed.
+-- verdict of both; `show` takes the executable, and prints its instructions. `Of` says of which
+-- bytes of a file it speaks: the told ones, or any allowed.
 abbrev pub ComesTo : (Option (List ℕ) → (List ℕ → Type 0) → Type 0)
     → (List ℕ → Option (List ℕ)) → Asked → Ending → Type 0
 ComesTo Of told (check file graph) ending =
     Of (told file) (Takes IsExecutable (λ bytes. IsRefusedFile file bytes ending) (λ image.
     Of (told graph) (Takes IsGraphText (λ bytes. IsRefusedGraph graph bytes ending) (λ g.
     ending ≡ judged graph (verdict_of image g)))))
+ComesTo Of told (show file address count) ending =
+    Of (told file) (Takes IsExecutable (λ bytes. IsRefusedFile file bytes ending) (λ image.
+    ending ≡ printed true (listing image count address)))
 
 -- The ending is the one that the files come to, as far as they are told.
 pub record IsDue (told : List ℕ → Option (List ℕ)) (asked : Asked) (ending : Ending) : Type 0 where
@@ -70,3 +75,4 @@ abbrev pub Reads : (List ℕ → Option (List ℕ)) → Asked → List ℕ → T
 Reads told (check file graph) name =
     (name ≡ file)
     ⊎ ((name ≡ graph) × Allows (told file) (λ bytes. (image : Image) × IsExecutable bytes image))
+Reads told (show file address count) name = name ≡ file

@@ -8,8 +8,9 @@ use Rattle.hoare_graph.specs.declared.verdict.Verdict.TheVariants.{Invalid}
 use Rattle.edge_checker.specs.Breaks.{verdict_of}
 use Rattle.foxdec_main.specs.declared.file_refusal.FileRefusal.{FileRefusal}
 use Rattle.foxdec_main.specs.FileRefusal.{executable_refusal}
-use Rattle.foxdec_main.specs.Words.{Asked, check}
+use Rattle.foxdec_main.specs.Words.{Asked, check, show}
 use Rattle.foxdec_main.specs.Ending.{Ending, printed, not_a_command, read_failed, file_refused, not_built, site_not_built, write_failed, out_of_memory, status_of, output_of, text_of}
+use Rattle.foxdec_main.specs.Listing.{listing}
 use Rattle.foxdec_main.specs.Outcome.{Allows, IsExecutable, IsGraphText, IsDue, Reads}
 use Rattle.foxdec_main.specs.Outside.{Files, Stream, ReadFailed, HasTrouble, Adds, Says}
 
@@ -79,6 +80,7 @@ pub record SaysUnreadable (files : Files) (err : Stream) (asked : Asked) : Type 
 -- the file of the executable that a command reads
 abbrev pub file_of : Asked → List ℕ
 file_of (check file graph) = file
+file_of (show file address count) = file
 
 -- A refusal applies to the executable's file, and the text says which.
 pub record SaysRefused (files : Files) (err : Stream) (asked : Asked) : Type 0 where
@@ -106,6 +108,11 @@ HoldsOf Holds file text =
 -- the bytes of two files, the told ones where they are told, are such
 abbrev pub AllowsBoth : (Image → Graph → Type 0) → Option (List ℕ) → Option (List ℕ) → Type 0
 AllowsBoth Holds file graph = Allows file (λ bytes. Allows graph (HoldsOf Holds bytes))
+
+-- the bytes are of an executable whose listing was added to the output
+abbrev pub AddsListing : Stream → ℕ → ℕ → List ℕ → Type 0
+AddsListing out address count bytes =
+    (image : Image) × IsExecutable bytes image × Adds out (listing image count address)
 
 -- this is the first rule that a graph breaks
 abbrev pub IsFirstBroken : Broken → Image → Graph → Type 0

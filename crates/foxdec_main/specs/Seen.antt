@@ -1,9 +1,9 @@
 -- The program's own types as plain data.
 use Rattle.std.specs.Prelude.{List, ℕ, string_bytes, Result, Ok, Err}
-use Rattle.foxdec_main.specs.Words.{Asked, check}
+use Rattle.foxdec_main.specs.Words.{Asked, check, show}
 use Rattle.foxdec_main.specs.Ending.{Ending, printed, not_a_command, read_failed, file_refused, not_built, site_not_built, out_of_memory}
 use Rattle.foxdec_main.specs.declared.words.Request.{Request}
-use Rattle.foxdec_main.specs.declared.words.Request.TheVariants.{Check}
+use Rattle.foxdec_main.specs.declared.words.Request.TheVariants.{Check, Show}
 use Rattle.foxdec_main.specs.declared.ending.Output.{Output}
 use Rattle.foxdec_main.specs.declared.ending.Refusal.{Refusal}
 use Rattle.foxdec_main.specs.declared.ending.Refusal.TheVariants.{NotACommand, ReadFailed, FileRefused, NotBuilt, SiteNotBuilt, OutOfMemory}
@@ -11,6 +11,7 @@ use Rattle.foxdec_main.specs.declared.ending.Refusal.TheVariants.{NotACommand, R
 -- what a request asks for
 abbrev pub asked_of : Request → Asked
 asked_of (Check file graph) = check file.now graph.now
+asked_of (Show file address count) = show file.now address count
 
 -- how a run ends with a refusal
 abbrev pub refused_of : Refusal → Ending

@@ -1,11 +1,13 @@
 // What each command does, up to its output.
-ghost use Rattle.std.specs.Prelude.{◌≡◌, ◌≤◌, length, map, string_bytes, IfOk, IfErr, Some};
+ghost use Rattle.std.specs.Prelude.{◌≡◌, true, ◌≤◌, length, map, string_bytes, IfOk, IfErr, Some};
 ghost use Rattle.wire_io.specs.Shelf.{GoesOn};
 ghost use Rattle.hoare_graph.specs.WellFormed.{IsWellFormed};
 ghost use Rattle.edge_checker.specs.Breaks.{verdict_of};
-ghost use Rattle.foxdec_main.specs.Words.{check, request_of};
+ghost use Rattle.foxdec_main.specs.Words.{check, show, request_of};
 ghost use Rattle.foxdec_main.specs.VerdictLine.{judged};
+ghost use Rattle.foxdec_main.specs.Ending.{printed};
 ghost use Rattle.foxdec_main.specs.FileRefusal.{limit};
+ghost use Rattle.foxdec_main.specs.Listing.{listing};
 ghost use Rattle.foxdec_main.specs.Outcome.{IsExecutable, IsGraphText, IsRefusedFile, IsRefusedGraph, Allows};
 ghost use Rattle.foxdec_main.specs.Outside.{files_of};
 ghost use Rattle.foxdec_main.specs.Promise.{IsShown, IsCaused};
@@ -14,6 +16,7 @@ ghost use Rattle.foxdec_main.specs.Seen.{refused_of, ending_of};
 
 use crate::ending::{Output, Refusal};
 use crate::file_refusal::FileRefusal;
+use crate::listing::list;
 use crate::verdict_line::conclude;
 use crate::words::{Request, read_words};
 use elf_image::{ElfRefusal, Image, read_elf};
@@ -36,6 +39,45 @@ pub fn answer<'a, S: Shelf>(
     match read_words(words) {
         None => Err(Refusal::NotACommand),
         Some(Request::Check { file, graph }) => check(alloc, shelf, file, graph),
+        Some(
+            Request::Show {
+                file,
+                address,
+                count,
+            },
+        ) => show(alloc, shelf, file, address, count),
+    }
+}
+
+// The instructions of an executable.
+fn show<'a, S: Shelf>(
+    alloc: Global,
+    shelf: &mut S,
+    file: &'a str,
+    address: u64,
+    count: u64,
+) -> Result<Output, Refusal<'a>>
+    ensures { IsCaused (files_of S.file S.faults shelf.old shelf.new) ⊥
+        (Some (show file.now address count)) (ending_of result) }
+{
+    match take_executable(alloc, shelf, file) {
+        Ok(image) => list_output(alloc, &image, address, count),
+        Err(refusal) => Err(refusal),
+    }
+}
+
+// The output of `show`, or why there is none.
+fn list_output<'a>(
+    alloc: Global,
+    image: &Image,
+    address: u64,
+    count: u64,
+) -> Result<Output, Refusal<'a>>
+    ensures { IsOrMemory (printed true (listing image.now count address)) (ending_of result) }
+{
+    match list(alloc, image, address, count) {
+        Ok(bytes) => Ok(Output { valid: true, bytes }),
+        Err(_) => Err(Refusal::OutOfMemory),
     }
 }
 

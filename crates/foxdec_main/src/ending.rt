@@ -80,7 +80,15 @@ fn say_file<'b, E: Sink>(err: &mut E, name: &'b [u8], refusal: &'b [u8], number:
 {
     put_pieces(
         err,
-        &[b"foxdec: ", name, b": executable refused: ", refusal, b" (", number, b")\n"],
+        &[
+            b"foxdec: ",
+            name,
+            b": executable refused: ",
+            refusal,
+            b" (",
+            number,
+            b")\n",
+        ],
     );
 }
 

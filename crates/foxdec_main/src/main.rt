@@ -6,6 +6,7 @@ mod adapters;
 mod commands;
 mod ending;
 mod file_refusal;
+mod listing;
 mod top;
 mod verdict_line;
 mod words;

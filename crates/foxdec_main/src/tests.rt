@@ -182,7 +182,12 @@ fn names_why_a_file_is_no_executable(rt: HostRuntime) -> Result<(), Fail> {
     let alloc = rt.alloc();
     for (at, byte, len, err) in [
         (0, 0x7f, 63, "foxdec: a: executable refused: TooShort (1)\n"),
-        (96, 122, 121, "foxdec: a: executable refused: SegmentOutside (12)\n"),
+        (
+            96,
+            122,
+            121,
+            "foxdec: a: executable refused: SegmentOutside (12)\n",
+        ),
         (16, 3, 121, "foxdec: a: executable refused: NotExec (6)\n"),
     ] {
         let files = files(alloc, changed(alloc, at, byte, len)?, graph(alloc, RET)?)?;
@@ -194,10 +199,77 @@ fn names_why_a_file_is_no_executable(rt: HostRuntime) -> Result<(), Fail> {
     Ok(())
 }
 
+// Runs `show a` with this address and count over an executable with this code.
+fn show(alloc: Global, numbers: &str, code: &[u8]) -> Result<Given, NoMemory> {
+    let mut line = String::from_str(alloc, "show a ")?;
+    line.push_str(numbers)?;
+    let files = files(alloc, executable(alloc, code)?, graph(alloc, RET)?)?;
+    run(
+        alloc,
+        line.as_str(),
+        files,
+        Vec::new(alloc),
+        Vec::new(alloc),
+    )
+}
+
+// The encodings and their meanings are those of Intel SDM volume 2.
+#[test]
+fn shows_the_instructions_from_an_address_on(rt: HostRuntime) -> Result<(), Fail> {
+    for (numbers, code, out) in [
+        (
+            "400078 1",
+            b"\x67\xe8\x03\0\0\0".as_slice(),
+            "400078 67e803000000 call 0x400081\n",
+        ),
+        (
+            "400078 1",
+            b"\x66\x2e\x0f\x1f\x84\0\0\0\0\0",
+            "400078 662e0f1f840000000000 nop\n",
+        ),
+        (
+            "400078 1",
+            b"\x64\x48\x8b\x04\x25\x28\0\0\0",
+            "400078 64488b042528000000 mov rax, qword [fs:40]\n",
+        ),
+        ("400078 1", b"\xf0\x01\x07", "400078 none\n"),
+        (
+            "400078 2",
+            b"\x66\x66\x66\x66\x66\x66\x66\x66\x66\x66\x66\x66\x66\x66\x90",
+            "400078 666666666666666666666666666690 nop\n400087 none\n",
+        ),
+        (
+            "400078 2",
+            b"\x66\x66\x66\x66\x66\x66\x66\x66\x66\x66\x66\x66\x66\x66\x66\x90",
+            "400078 none\n",
+        ),
+        (
+            "0000000000400078 65536",
+            b"\x90\xf2\xc3",
+            "400078 90 nop\n400079 f2c3 ret\n40007b none\n",
+        ),
+        ("FFFFFFFFFFFFFFFF 1", b"\xc3", "ffffffffffffffff none\n"),
+    ] {
+        let run = show(rt.alloc(), numbers, code)?;
+        assert_eq!(rt; run.status, 0, "the status for {out}");
+        assert_eq!(rt; run.out.as_slice(), out.as_bytes(), "the output for {out}");
+        assert_eq!(rt; run.err.len(), 0, "the text for {out}");
+    }
+    Ok(())
+}
+
 #[test]
 fn words_that_are_no_command_read_nothing(rt: HostRuntime) -> Result<(), Fail> {
     let alloc = rt.alloc();
-    for line in ["", "check a", "check a -g", "check a g g", "lift a"] {
+    for line in [
+        "",
+        "check a",
+        "check a -g",
+        "check a g g",
+        "show a 0 0",
+        "show a +1 1",
+        "show a 1 65537",
+    ] {
         let run = run(
             alloc,
             line,

@@ -1,16 +1,18 @@
 // The program as a function over its words, its files and its streams.
 ghost use Rattle.std.specs.Prelude.{◌≡◌, ◌⊎◌, ◌↔◌, ◌+◌, ◌≤◌, List, ℕ, length, map, string_bytes, Some, None};
 ghost use Rattle.wire_io.specs.Sink.{Grows, KeepsRoom};
+ghost use Rattle.elf_image.specs.declared.image.Image.{Image as PlainImage};
 ghost use Rattle.hoare_graph.specs.declared.verdict.Broken.{Broken};
 ghost use Rattle.edge_checker.specs.Rules.{IsValid};
-ghost use Rattle.foxdec_main.specs.Words.{Asked, Ask, check, request_of};
+ghost use Rattle.foxdec_main.specs.Words.{Asked, Ask, check, show, request_of};
 ghost use Rattle.foxdec_main.specs.Ending.{Ending, file_refused, output_of, text_of};
 ghost use Rattle.foxdec_main.specs.VerdictLine.{valid_line, invalid_line};
-ghost use Rattle.foxdec_main.specs.Outcome.{Tells, ComesTo};
+ghost use Rattle.foxdec_main.specs.Listing.{listing};
+ghost use Rattle.foxdec_main.specs.Outcome.{Tells, Allows, ComesTo, IsExecutable};
 ghost use Rattle.foxdec_main.specs.declared.file_refusal.FileRefusal.{FileRefusal};
 ghost use Rattle.foxdec_main.specs.FileRefusal.{executable_refusal};
 ghost use Rattle.foxdec_main.specs.Outside.{HasTrouble, Says, files_of, stream_of};
-ghost use Rattle.foxdec_main.specs.Promise.{Ends, Gives, GivesDue, file_of, SaysUnreadable, SaysRefused, IsCutOff, IsAnswered, IsSilent, IsExcused, IsUnreadable, HoldsOf, AllowsBoth, IsFirstBroken};
+ghost use Rattle.foxdec_main.specs.Promise.{Ends, Gives, GivesDue, file_of, SaysUnreadable, SaysRefused, IsCutOff, IsAnswered, IsSilent, IsExcused, IsUnreadable, AddsListing, HoldsOf, AllowsBoth, IsFirstBroken};
 
 use crate::commands::answer;
 use crate::ending::{say_refusal, say_write_failed};
@@ -52,7 +54,11 @@ fn run<S: Shelf, O: Sink, E: Sink>(
 /// most 67,108,864 bytes. FILE is an ELF-64 executable at fixed addresses for x86-64. GRAPH is so
 /// far the text of one function with one vertex a site; every other text is "not built yet".
 ///
-/// - 0: the graph is valid, and `valid` with a line feed is written to `out`.
+/// `show FILE H N` prints up to N instructions of FILE from the address H on, each on a line: the
+/// address in hexadecimal, the bytes, and the text; the next one stands where it ends, modulo
+/// 2^64. Where no instruction stands, the line is the address and ` none`, and the last one.
+///
+/// - 0: the listing is written; or the graph is valid, and `valid` with a line feed is written to `out`.
 /// - 1: it is not, and `invalid FUNCTION SITE VERTEX CASE RULE` with a line feed is written, the
 ///   place of the first rule that is broken: addresses modulo 2^64 in hexadecimal, the vertex's
 ///   number and the edge's in decimal, and the rule's name.
@@ -148,6 +154,19 @@ pub fn foxdec<S: Shelf, O: Sink, E: Sink>(
         ((result ≡ 1) × Grows (O.written out.old) (O.written out.new) (invalid_line broken))
         ⊎ IsExcused (files_of S.file S.faults shelf.old shelf.new)
         (stream_of O.written O.faults O.stalls out.old out.new) (check file graph) result }
+
+    // `show` answers 0 only with the listing of an executable ..
+    ensures shown { (file : List ℕ) (address count : ℕ) →
+        Ask words.now (show file address count) → result ≡ 0 →
+        Allows (S.file shelf.old file) (AddsListing
+        (stream_of O.written O.faults O.stalls out.old out.new) address count) }
+    // .. and everywhere the file is one, but for the same excuses.
+    ensures all_shown { (file bytes : List ℕ) (address count : ℕ) (image : PlainImage) →
+        Ask words.now (show file address count) →
+        S.file shelf.old file ≡ Some bytes → IsExecutable bytes image →
+        ((result ≡ 0) × Grows (O.written out.old) (O.written out.new) (listing image count address))
+        ⊎ IsExcused (files_of S.file S.faults shelf.old shelf.new)
+        (stream_of O.written O.faults O.stalls out.old out.new) (show file address count) result }
 
     // What a stall of `out` shows of its room.
     ensures room { KeepsRoom (O.room out.old) (O.room out.new) (O.stalls out.old) (O.stalls out.new)

@@ -65,7 +65,7 @@ fn index_text(alloc: Global, vertex: u32, case: u32) -> Result<String, AllocErro
 }
 
 // The digits of an address.
-fn hex_digits(alloc: Global, address: u64) -> Result<String, AllocError>
+pub fn hex_digits(alloc: Global, address: u64) -> Result<String, AllocError>
     ensures { IfOk result (λ digits. string_bytes digits ≡ hex address) }
 {
     format!(in alloc; "{address:x}")

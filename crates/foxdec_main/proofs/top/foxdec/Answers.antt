@@ -1,5 +1,5 @@
 use Rattle.foxdec_main.proofs.PromiseLemmas.{two, unreadable, cut, answers, silent_written, decides, completes}
-use Rattle.foxdec_main.proofs.CheckLemmas.{only_refused, all_refused, only_valid, all_valid, only_broken, all_broken}
+use Rattle.foxdec_main.proofs.CheckLemmas.{only_refused, all_refused, only_shown, all_shown, only_valid, all_valid, only_broken, all_broken}
 use Rattle.foxdec_main.proofs.top.foxdec.Goals as goal
 
 pub returns-clause-words : goal.returns-clause-words
@@ -40,3 +40,9 @@ returns-clause-invalid g c file graph request is = only_broken _ _ _ file graph 
 
 pub returns-clause-all_invalid : goal.returns-clause-all_invalid
 returns-clause-all_invalid g c file graph bytes text broken request file_is graph_is = all_broken _ _ _ file graph _ (rw request at c.run.ensures.ends) bytes text file_is graph_is broken
+
+pub returns-clause-shown : goal.returns-clause-shown
+returns-clause-shown g c file address count request is = only_shown _ _ _ file address count _ (rw request at c.run.ensures.ends) is
+
+pub returns-clause-all_shown : goal.returns-clause-all_shown
+returns-clause-all_shown g c file bytes address count image request is form = all_shown _ _ _ file address count _ (rw request at c.run.ensures.ends) bytes image is form

@@ -3,8 +3,9 @@ use Rattle.foxdec_main.specs.Words.{request_of}
 use Rattle.foxdec_main.specs.Ending.{printed, write_failed}
 use Rattle.foxdec_main.specs.Outside.{files_of, stream_of, HasTrouble}
 use Rattle.foxdec_main.specs.Promise.{IsCaused}
+use Rattle.foxdec_main.specs.Seen.{refused_of}
 use Rattle.foxdec_main.proofs.ShownLemmas.{unwritten, cut_off}
-use Rattle.foxdec_main.proofs.TextLemmas.{Says-nothing}
+use Rattle.foxdec_main.proofs.TextLemmas.{Says-nothing, refused_silent}
 use Rattle.foxdec_main.proofs.top.run.Goals as goal
 
 pub returns-then-output-clause-ends : goal.returns-then-output-clause-ends
@@ -47,4 +48,16 @@ returns-in-Ok-clause-ends g c =
       caused = cut_off files (HasTrouble out) request output.valid output.bytes.items failed.failed.taken c.in-Ok.ensures
           (rw c.deref.ensures.value at failed.ensures.proper) failed.ensures.failed;
       gives = record { status_is = refl; output = rw c.deref.ensures.value at failed.ensures.front; text = c.say_write_failed.ensures };
+    }
+
+pub returns-clause-ends : goal.returns-clause-ends
+returns-clause-ends g c =
+    let files = files_of g.S.Shelf.file g.S.Shelf.faults c.args.shelf.now c.answer.new.shelf in
+    let out = stream_of g.O.Sink.written g.O.Sink.faults g.O.Sink.stalls c.args.out.now c.args.out.now in
+    let request = request_of (map string_bytes c.args.words.now) in
+    let refusal = c.in-Err.refusal in
+    record {
+      ending = refused_of refusal;
+      caused = unwritten files (HasTrouble out) request (refused_of refusal) c.in-Err.ensures;
+      gives = record { status_is = c.status.ensures; output = refused_silent (g.O.Sink.written c.args.out.now) refusal; text = c.say_refusal.ensures };
     }
