@@ -12,7 +12,8 @@ theirs = {}
 for line in open(os.path.join(work, "theirs"), errors="replace"):
     parts = line.rstrip("\n").split("\t")
     if len(parts) >= 3 and re.fullmatch(r"\s*[0-9a-f]+:", parts[0]):
-        words = [w for w in parts[2].split() if w not in ("bnd", "notrack", "rep", "repz", "cs", "ds", "es", "ss", "data16")
+        words = [w for w in parts[2].split() if w not in ("bnd", "notrack", "rep", "repz", "cs", "ds", "es", "ss", "data16",
+                                                     "addr32")
                  and not w.startswith("rex")]
         theirs[int(parts[0].strip(" :"), 16)] = (parts[1].replace(" ", ""), words[0] if words else "")
 
@@ -22,8 +23,9 @@ for line in open(os.path.join(work, "symbols")):
     if len(parts) == 4 and parts[2] in "tTwW" and int(parts[1], 16):
         functions.add((int(parts[0], 16), int(parts[1], 16)))
 
-SAME = {"movsxd": "movsx", "movabs": "mov", "endbr64": "nop", "xchg": "xchg", "je": "je", "sal": "shl",
-        "cbw": "cbw", "ret": "ret"}
+# what objdump calls by another name; it also prints a nop with prefixes 66 as an xchg
+SAME = {"movsxd": "movsx", "movabs": "mov", "endbr64": "nop", "sal": "shl"}
+
 equal, differ, stopped, seen = 0, collections.defaultdict(list), collections.Counter(), set()
 for start, size in sorted(functions):
     if start in seen:
@@ -48,7 +50,7 @@ for start, size in sorted(functions):
         ours = text.split(" ")[0]
         if digits != bytes_:
             differ["length"].append(f"{line} against {bytes_} {mnemonic}")
-        elif ours != SAME.get(mnemonic, mnemonic):
+        elif ours != SAME.get(mnemonic, mnemonic) and not re.fullmatch("nop (66)+90", f"{ours} {digits}"):
             differ[f"{ours} against {mnemonic}"].append(line)
         else:
             equal += 1
