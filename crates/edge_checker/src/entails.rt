@@ -39,7 +39,9 @@ pub fn first_missing(effect: Effect, p: &Pred, q: &Pred) -> Option<Rule>
 fn knows_registers(effect: Effect, p: &Pred, q: &Pred) -> bool
     ensures { result ≡ has_registers (after effect p.now) q.now }
 {
-    REGISTERS.iter().all(|r| knows(register_after(effect, p, *r), register(q, *r)))
+    REGISTERS
+        .iter()
+        .all(|r| knows(register_after(effect, p, *r), register(q, *r)))
 }
 
 // Whether what is asked for, if anything, is known to be that term.
@@ -83,8 +85,8 @@ fn register_after(effect: Effect, p: &Pred, r: u8) -> Option<Term>
     ensures { result ≡ register_of (after effect p.now) r }
 {
     match effect {
-        Effect::MoveImmediate { register, value }
-            if register == r && (r as usize) < p.regs.len() => { Some(Term::Number(value)) }
+        Effect::MoveImmediate { register, value } if register == r && (r as usize) < p.regs.len() =>
+            { Some(Term::Number(value)) }
         _ => register(p, r),
     }
 }
