@@ -1,5 +1,6 @@
 use crate::{Function, Graph, Image, Instr, Kind, Pred, Region, Site, Term, Vertex, accept};
 use std::alloc::{AllocError, Global};
+use std::process::Abort;
 
 // What an entry knows: each register has its entry value, and the return address is there.
 const ENTRY: Pred = Pred {
@@ -180,8 +181,15 @@ fn recursion_is_accepted_with_its_kept_region(rt: HostRuntime) {
     assert!(rt; accepts(rt.alloc(), forgotten).is_ok_and(|yes| !yes));
 }
 
+// Each graph, which breaks one rule, is refused.
+fn refuses(rt: &impl Abort, alloc: Global, rows: &[(&str, Plan)]) {
+    for (broken, plan) in rows {
+        assert!(rt; accepts(alloc, *plan).is_ok_and(|yes| !yes), "{broken}");
+    }
+}
+
 #[test]
-fn a_graph_that_breaks_one_rule_is_refused(rt: HostRuntime) {
+fn a_site_that_is_not_what_it_says_is_refused(rt: HostRuntime) {
     let rows = [
         (
             "the entry vertex knows less than an entry",
@@ -206,6 +214,13 @@ fn a_graph_that_breaks_one_rule_is_refused(rt: HostRuntime) {
             },
         ),
         ("a pair is decided", Plan { sep: true, ..PLAN }),
+    ];
+    refuses(&rt, rt.alloc(), &rows);
+}
+
+#[test]
+fn a_call_that_is_not_as_it_says_is_refused(rt: HostRuntime) {
+    let rows = [
         (
             "a pair to be told apart is decided",
             Plan { fork: true, ..PLAN },
@@ -231,6 +246,13 @@ fn a_graph_that_breaks_one_rule_is_refused(rt: HostRuntime) {
                 ..PLAN
             },
         ),
+    ];
+    refuses(&rt, rt.alloc(), &rows);
+}
+
+#[test]
+fn a_return_that_does_not_hold_is_refused(rt: HostRuntime) {
+    let rows = [
         (
             "rbx is not restored at the return",
             Plan {
@@ -251,6 +273,13 @@ fn a_graph_that_breaks_one_rule_is_refused(rt: HostRuntime) {
                 ..PLAN
             },
         ),
+    ];
+    refuses(&rt, rt.alloc(), &rows);
+}
+
+#[test]
+fn an_edge_that_does_not_hold_is_refused(rt: HostRuntime) {
+    let rows = [
         (
             "an edge has another address",
             Plan {
@@ -273,9 +302,7 @@ fn a_graph_that_breaks_one_rule_is_refused(rt: HostRuntime) {
             },
         ),
     ];
-    for (broken, plan) in rows {
-        assert!(rt; accepts(rt.alloc(), plan).is_ok_and(|yes| !yes), "{broken}");
-    }
+    refuses(&rt, rt.alloc(), &rows);
 }
 
 #[test]
