@@ -4,12 +4,12 @@
 # Usage: bench/check.sh [SITES]
 set -eu
 top=$(cd "$(dirname "$0")/.." && pwd)
-command -v python3 >/dev/null || { echo "bench/check.sh: skipped, no python3"; exit 0; }
+. "$top/tools/common.sh"
+need python3
 sites=${1:-100000}
 "$top/foxdec" check "$top/examples/ret.elf" "$top/examples/ret.graph" >/dev/null
-work=$(mktemp -d)
-trap 'rm -rf "$work"' EXIT
-exec python3 - "$top" "$work" "$sites" <<'PY'
+use_folder
+python3 - "$top" "$work" "$sites" <<'PY'
 import os, resource, struct, subprocess, sys, time
 
 top, work, sites = sys.argv[1], sys.argv[2], int(sys.argv[3])

@@ -6,23 +6,11 @@
 # decoder is than objdump's whole run.
 set -eu
 top=$(cd "$(dirname "$0")/.." && pwd)
-for tool in objdump objcopy awk date; do
-    command -v "$tool" >/dev/null || { echo "skipped: no $tool"; exit 0; }
-done
-driver=$top/crates/decode_bench/out/decode_bench
-if [ ! -x "$driver" ]; then
-    command -v rt >/dev/null || { echo "skipped: no $driver and no rt"; exit 0; }
-    (cd "$top/crates/decode_bench" && rt run </dev/null >/dev/null)
-fi
-work=$(mktemp -d)
-trap 'rm -rf "$work"' EXIT
-file=${1:-}
-if [ -z "$file" ]; then
-    command -v gcc >/dev/null || { echo "skipped: no gcc"; exit 0; }
-    file=$work/program
-    printf '#include <stdio.h>\nint main(void) { return puts("hello") < 0; }\n' >"$work/program.c"
-    gcc -O2 -static -o "$file" "$work/program.c"
-fi
+. "$top/tools/common.sh"
+need objdump objcopy awk date
+use_driver decode_bench
+use_folder
+use_executable "${1:-}"
 objcopy -O binary --only-section=.text "$file" "$work/text"
 size=$((8 * 1024 * 1024))
 : >"$work/code"

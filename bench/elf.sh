@@ -4,14 +4,11 @@
 # Usage: bench/elf.sh [MEBIBYTES]
 set -eu
 top=$(cd "$(dirname "$0")/.." && pwd)
-for tool in python3 rt; do
-    command -v "$tool" >/dev/null || { echo "bench/elf.sh: skipped, no $tool"; exit 0; }
-done
-program="$top/crates/elf_bench/out/elf_bench"
-[ -x "$program" ] || (cd "$top/crates/elf_bench" && rt run <stdin >/dev/null)
-work=$(mktemp -d)
-trap 'rm -rf "$work"' EXIT
-python3 - "$program" "$work" "${1:-64}" <<'PY'
+. "$top/tools/common.sh"
+need python3
+use_driver elf_bench
+use_folder
+python3 - "$driver" "$work" "${1:-64}" <<'PY'
 import os, struct, subprocess, sys, time
 
 program, work, mebibytes = sys.argv[1], sys.argv[2], int(sys.argv[3])

@@ -4,13 +4,11 @@
 # The code is that of a statically linked C program, each instruction that `show` knows, one after the other.
 set -eu
 top=$(cd "$(dirname "$0")/.." && pwd)
-for tool in objdump python3; do
-    command -v "$tool" >/dev/null || { echo "skipped: no $tool"; exit 0; }
-done
+. "$top/tools/common.sh"
+need objdump python3
 "$top/foxdec" show "$top/examples/ret.elf" 400078 1 >/dev/null
-work=$(mktemp -d)
-trap 'rm -rf "$work"' EXIT
-exec python3 - "$top/crates/foxdec_main/out/foxdec_main" "$work" <<'PY'
+use_folder
+python3 - "$top/crates/foxdec_main/out/foxdec_main" "$work" <<'PY'
 import os, struct, subprocess, sys, time
 
 program, work = sys.argv[1:]

@@ -7,16 +7,10 @@
 set -eu
 top=$(cd "$(dirname "$0")/.." && pwd)
 file=${1:?usage: tools/compare_decoder.sh FILE}
-for tool in objdump objcopy awk; do
-    command -v "$tool" >/dev/null || { echo "skipped: no $tool"; exit 0; }
-done
-driver=$top/crates/decode_bench/out/decode_bench
-if [ ! -x "$driver" ]; then
-    command -v rt >/dev/null || { echo "skipped: no $driver and no rt"; exit 0; }
-    (cd "$top/crates/decode_bench" && rt run </dev/null >/dev/null)
-fi
-work=$(mktemp -d)
-trap 'rm -rf "$work"' EXIT
+. "$top/tools/common.sh"
+need objdump objcopy awk
+use_driver decode_bench
+use_folder
 objcopy -O binary --only-section=.text "$file" "$work/code"
 start=$(objdump -h "$file" | awk '$2 == ".text" { print $4; exit }')
 "$driver" <"$work/code" >"$work/ours"

@@ -4,22 +4,15 @@
 # Usage: tools/compare_segments.sh [EXECUTABLE ..]
 set -eu
 top=$(cd "$(dirname "$0")/.." && pwd)
-for tool in cc readelf python3 rt; do
-    command -v "$tool" >/dev/null || { echo "tools/compare_segments.sh: skipped, no $tool"; exit 0; }
-done
-program="$top/crates/elf_bench/out/elf_bench"
-[ -x "$program" ] || (cd "$top/crates/elf_bench" && rt run <stdin >/dev/null)
-work=$(mktemp -d)
-trap 'rm -rf "$work"' EXIT
+. "$top/tools/common.sh"
+need readelf python3
+use_driver elf_bench
+use_folder
 if [ $# = 0 ]; then
-    printf '#include <stdio.h>\nint main(void) { puts("segments"); return 0; }\n' >"$work/a.c"
-    if ! cc -static -no-pie -o "$work/a" "$work/a.c" 2>/dev/null; then
-        echo "tools/compare_segments.sh: skipped, cc links no static executable"
-        exit 0
-    fi
-    set -- "$work/a"
+    use_executable ""
+    set -- "$file"
 fi
-python3 - "$program" "$@" <<'PY'
+python3 - "$driver" "$@" <<'PY'
 import re, subprocess, sys
 
 def printed(*words):

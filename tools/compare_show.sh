@@ -7,19 +7,11 @@
 # and the mnemonics at which `show` stopped, most frequent first. The status is 1 where an instruction differs.
 set -eu
 top=$(cd "$(dirname "$0")/.." && pwd)
-for tool in objdump nm python3; do
-    command -v "$tool" >/dev/null || { echo "skipped: no $tool"; exit 0; }
-done
-work=$(mktemp -d)
-trap 'rm -rf "$work"' EXIT
-file=${1:-}
-if [ -z "$file" ]; then
-    command -v gcc >/dev/null || { echo "skipped: no gcc"; exit 0; }
-    file=$work/program
-    printf '#include <stdio.h>\nint main(void) { return puts("hello") < 0; }\n' >"$work/program.c"
-    gcc -O2 -static -no-pie -o "$file" "$work/program.c"
-fi
+. "$top/tools/common.sh"
+need objdump nm python3
+use_folder
+use_executable "${1:-}"
 "$top/foxdec" show "$top/examples/ret.elf" 400078 1 >/dev/null
 objdump -d -w -M intel "$file" >"$work/theirs"
 nm --defined-only -n -S "$file" >"$work/symbols"
-exec python3 "$top/tools/compare_show.py" "$top/crates/foxdec_main/out/foxdec_main" "$file" "$work"
+python3 "$top/tools/compare_show.py" "$top/crates/foxdec_main/out/foxdec_main" "$file" "$work"
