@@ -60,7 +60,19 @@ def program_header(size):
     ])
 
 
-for name, digits in EXAMPLES.items():
-    code = bytes.fromhex(digits)
-    file = FILE_HEADER + program_header(HEADERS + len(code)) + code
+def write(name, file):
     pathlib.Path(__file__).with_name(name).write_bytes(file)
+
+
+def executable(code):
+    return FILE_HEADER + program_header(HEADERS + len(code)) + code
+
+
+for name, digits in EXAMPLES.items():
+    write(name, executable(bytes.fromhex(digits)))
+
+# ret.elf, spoilt in one place each: what is refused, and by which name.
+ret = executable(bytes.fromhex(EXAMPLES["ret.elf"]))
+write("refused_short.elf", ret[:63])                                # TooShort
+write("refused_segment.elf", ret[:96] + xword(122) + ret[104:])     # SegmentOutside: p_filesz
+write("refused_shared.elf", ret[:16] + half(3) + ret[18:])          # NotExec: e_type
