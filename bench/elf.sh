@@ -57,6 +57,6 @@ spent, peak = timed([program], path)
 cat, _ = timed(["cat"], path)
 base = own([program])
 print(f"{mebibytes} MiB read in {spent:.3f} s, `cat` takes {cat:.3f} s: {spent / cat:.1f} times as long")
-print(f"peak memory {peak / 2**20:.1f} MiB: {(peak - base) / size:.2f} times the file, "
+print(f"peak memory {peak / 2**20:.1f} MiB: {(peak - base) / size:.3f} times the file, "
       f"and {base / 2**20:.1f} MiB of the program itself")
 PY
