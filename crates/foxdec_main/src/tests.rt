@@ -180,18 +180,38 @@ fn changed(alloc: Global, at: usize, byte: u8, len: usize) -> Result<Vec<u8>, No
 #[test]
 fn names_why_a_file_is_no_executable(rt: HostRuntime) -> Result<(), Fail> {
     let alloc = rt.alloc();
-    for (at, byte, len, err) in [
-        (0, 0x7f, 63, "foxdec: a: executable refused: TooShort (1)\n"),
+    for (line, at, byte, len, err) in [
         (
+            "check a g",
+            0,
+            0x7f,
+            63,
+            "foxdec: a: executable refused: TooShort (1)\n",
+        ),
+        (
+            "show a 400078 1",
+            0,
+            0x7f,
+            63,
+            "foxdec: a: executable refused: TooShort (1)\n",
+        ),
+        (
+            "show a 400078 1",
             96,
             122,
             121,
             "foxdec: a: executable refused: SegmentOutside (12)\n",
         ),
-        (16, 3, 121, "foxdec: a: executable refused: NotExec (6)\n"),
+        (
+            "show a 400078 1",
+            16,
+            3,
+            121,
+            "foxdec: a: executable refused: NotExec (6)\n",
+        ),
     ] {
         let files = files(alloc, changed(alloc, at, byte, len)?, graph(alloc, RET)?)?;
-        let run = run(alloc, "check a g", files, Vec::new(alloc), Vec::new(alloc))?;
+        let run = run(alloc, line, files, Vec::new(alloc), Vec::new(alloc))?;
         assert_eq!(rt; run.status, 4, "the status with {err}");
         assert_eq!(rt; run.out.len(), 0, "the output with {err}");
         assert_eq!(rt; run.err.as_slice(), err.as_bytes(), "the text");
@@ -249,6 +269,7 @@ fn shows_the_instructions_from_an_address_on(rt: HostRuntime) -> Result<(), Fail
             "400078 90 nop\n400079 f2c3 ret\n40007b none\n",
         ),
         ("FFFFFFFFFFFFFFFF 1", b"\xc3", "ffffffffffffffff none\n"),
+        ("f 1", b"\xc3", "f none\n"),
     ] {
         let run = show(rt.alloc(), numbers, code)?;
         assert_eq!(rt; run.status, 0, "the status for {out}");
