@@ -1,7 +1,5 @@
 pub mod Parts
+pub mod Order
 pub mod WellFormed
-pub mod Text
-pub mod FirstPath
 pub mod Lookup
 pub mod Verdict
-pub mod Reading

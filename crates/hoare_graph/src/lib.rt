@@ -1,20 +1,13 @@
-//! Hoare graphs: predicates as vertices, instructions as edges, and what a checker says of them.
-//! It reads the text of a small graph exactly; it never looks into the executable.
+//! Hoare graphs as data: predicates as vertices, instructions as edges, and what a checker says of them.
+//! It looks functions and sites up; it never looks into the executable, and reads no text.
 #![tactic(auto)]
 
 mod graph;
-mod lines;
 mod lookup;
-mod reading;
-mod refusal;
 #[cfg(test)]
 mod tests;
 mod verdict;
-mod words;
-mod writing;
 
-pub use graph::{Function, Graph, Kind, Policy, Pred, Site, Term, Vertex};
-pub use reading::{one_text, read_graph};
-pub use refusal::{GraphRefusal, NoMemory};
+pub use graph::{Function, Graph, LiftRefusal, Policy, Refused, Site, Vertex};
+pub use predicates::{Kind, Reason};
 pub use verdict::{Broken, Rule, Verdict};
-pub use writing::write_graph;

@@ -1,0 +1,11 @@
+pub mod Bounds
+pub mod Predicate
+pub mod Codes
+pub mod Entry
+pub mod Registers
+pub mod Weight
+pub mod Holding
+pub mod Places
+pub mod Entails
+pub mod Missing
+pub mod Laws

@@ -1,0 +1,40 @@
+use mem_forest::{Context, Region};
+
+/// What is assumed at a site: the context of its memory, the pair of regions of which it is asked whether
+/// they are one or separate, and the regions that a call keeps.
+#[derive(Drop)]
+pub struct SiteView<'a> {
+    pub context: Context<'a>,
+    pub fork: Option<&'a (Region, Region)>,
+    pub keeps: &'a [Region],
+}
+
+/// Why nothing is claimed behind a site.
+#[derive(Clone, Copy, Debug, PartialEq, Eq)]
+pub enum Reason {
+    /// Where an indirect jump goes isn't known.
+    Unresolved,
+    /// A return whose address or callee-saved registers aren't known to be the caller's.
+    BadReturn,
+    /// An instruction that isn't decoded.
+    Unsupported,
+    /// `hlt`, `ud2` or `int3`.
+    Stop,
+    /// A function that is taken to lie outside.
+    Extern,
+}
+
+/// What is claimed of a site's instruction.
+#[derive(Clone, Copy, Debug, PartialEq, Eq)]
+pub enum Kind {
+    /// It goes on along its edges.
+    Step,
+    /// It calls the function with this entry, which returns.
+    Call(u64),
+    /// It calls what isn't looked into, a system call or a function, which returns.
+    Outside,
+    /// It returns to the caller.
+    Return,
+    /// Nothing is claimed behind it.
+    End(Reason),
+}

@@ -1,0 +1,12 @@
+pub mod NumberLemmas
+pub mod NameLemmas
+pub mod RunLemmas
+pub mod WriteLemmas
+pub mod PieceLemmas
+pub mod StepLemmas
+pub mod TermLemmas
+pub mod CleanLemmas
+pub mod ShortLemmas
+pub mod BuildLemmas
+pub mod KeepLemmas
+pub mod LawLemmas

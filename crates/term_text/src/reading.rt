@@ -1,0 +1,50 @@
+ghost use Rattle.std.specs.Prelude.{◌≡◌, IfOk, Ok};
+ghost use Rattle.sym_terms.specs.Plain.{PlainSum};
+ghost use Rattle.sym_terms.specs.Normal.{IsTerm};
+ghost use Rattle.term_text.specs.Text.{sum_text};
+ghost use Rattle.term_text.specs.Reading.{Gives, term_at};
+
+use crate::cause::TextCause;
+use crate::machine::{MOST_NODES, run_machine};
+use crate::writing::put_term;
+use std::alloc::Global;
+use sym_terms::Term;
+
+/// The term whose text the bytes are. `buffer` is written over; where it has room for the text, memory is
+/// taken for terms and open brackets alone.
+///
+/// `BadTerm` where the bytes are not in the loose grammar: an optional sign, a piece, then any number of
+/// sign and piece; a piece is a number, an atom, or a number, `*` and an atom; a number is decimal or
+/// `0x` and hexadecimal digits of either case, below 2^64. `OverLimit` where they are, with over 32 loose
+/// nodes: 1 for each term and 1 for each piece that has an atom. `NotCanonical` where they are another
+/// spelling of a term.
+pub fn read_term(alloc: Global, bytes: &[u8], buffer: &mut Vec<u8>) -> Result<Term, TextCause>
+    // What is read has these bytes as its text.
+    ensures found { IfOk result (λ t. IsTerm t × (bytes.now ≡ sum_text t)) }
+    // The text of a term is read, unless memory runs out.
+    ensures only { (t : PlainSum) → IsTerm t → bytes.now ≡ sum_text t → Gives (λ t. t) result (Ok t) }
+    // Which cause it is.
+    ensures exact { Gives (λ t. t) result (term_at bytes.now) }
+{
+    judge(alloc, bytes, buffer)
+}
+
+#[tactic(auto, unfolding(crate::specs::Reading::term_at))]
+fn judge(alloc: Global, bytes: &[u8], buffer: &mut Vec<u8>) -> Result<Term, TextCause>
+    ensures { Gives (λ t. t) result (term_at bytes.now) }
+{
+    let Some(machine) = run_machine(alloc, bytes)? else {
+        return Err(TextCause::BadTerm);
+    };
+    if machine.count > MOST_NODES {
+        return Err(TextCause::OverLimit);
+    }
+    // No value of another spelling is looked at: the one text decides.
+    buffer.clear();
+    put_term(buffer, &machine.sum)?;
+    if buffer.as_slice() == bytes {
+        Ok(machine.sum)
+    } else {
+        Err(TextCause::NotCanonical)
+    }
+}
