@@ -1,6 +1,0 @@
-pub mod FirstLemmas
-pub mod PlaceLemmas
-pub mod BreakLemmas
-pub mod EmptyLemmas
-pub mod TestLemmas
-pub mod ValidLemmas
