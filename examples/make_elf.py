@@ -14,6 +14,7 @@ ADDRESS = 0x400000
 EXAMPLES = {
     "ret.elf": "C3",                         # ret
     "move.elf": "48B8 FFFFFFFFFFFFFFFF C3",  # mov rax, -1; ret
+    "push.elf": "53 5B C3",                  # push rbx; pop rbx; ret
 }
 
 
