@@ -1,0 +1,91 @@
+-- The laws of lines: the text of a line is read as the line, and lines with one text are one.
+use Rattle.std.proofs.Common.{◌≡◌, ℕ, true, false, List, [], ◌∷◌, Option, Result, Ok, refl, sym, ap, ◌∙◌}
+use Rattle.std.specs.List.{list_any}
+use Rattle.std.specs.Str.{bytes_eq}
+use Rattle.std.proofs.lemmas.Slice.Eq.{bytes_eq-Decides}
+use Rattle.sym_terms.specs.Plain.{PlainSum}
+use Rattle.hoare_graph.specs.Parts.{Each}
+use Rattle.term_text.specs.declared.cause.TextCause.{TextCause}
+use Rattle.graph_lines.specs.declared.line.Line.{Line}
+use Rattle.graph_lines.specs.declared.line.Line.TheVariants as line
+use Rattle.graph_lines.specs.Words.{are_printable}
+use Rattle.graph_lines.specs.Line.{is_own, IsGiven, IsLine}
+use Rattle.graph_lines.specs.Text.{line_text}
+use Rattle.graph_lines.specs.Reading.{gives_own, line_at}
+use Rattle.graph_lines.proofs.MarkLemmas.{mark_reads}
+use Rattle.graph_lines.proofs.PlainLemmas.{Again, function_again, function_printable, refused_again, refused_printable, site_again, site_printable, vertex_again, vertex_printable, edges_again, edges_printable, end_again}
+use Rattle.graph_lines.proofs.TermLineLemmas.{pair_again, pair_printable, fork_again, fork_printable, keep_again, keep_printable, registers_again, registers_printable, fact_again, fact_printable, bound_again, bound_printable, node_again, node_printable}
+
+-- each byte of a line may stand in one
+pub line_printable : (l : Line) → IsLine l → are_printable (line_text l) ≡ true
+line_printable (line.Function entry below above) is = function_printable entry below above is
+line_printable (line.Refused entry) is = refused_printable entry is
+line_printable (line.Site addr kind) is = site_printable addr kind is
+line_printable (line.Pair a b) is = pair_printable a b is
+line_printable (line.Fork a b) is = fork_printable a b is
+line_printable (line.Keep r) is = keep_printable r is
+line_printable (line.Vertex n) is = vertex_printable n is
+line_printable (line.Registers given) is = registers_printable given is
+line_printable (line.Flags f) is = fact_printable f is
+line_printable (line.Bound b) is = bound_printable b is
+line_printable (line.Node level node) is = node_printable level node is
+line_printable (line.Edges out) is = edges_printable out is
+line_printable line.End is = refl
+
+-- a line of each kind is read again behind its letter and space
+line_again : (l : Line) → IsLine l → Again l
+line_again (line.Function entry below above) is = function_again entry below above is
+line_again (line.Refused entry) is = refused_again entry is
+line_again (line.Site addr kind) is = site_again addr kind is
+line_again (line.Pair a b) is = pair_again a b is
+line_again (line.Fork a b) is = fork_again a b is
+line_again (line.Keep r) is = keep_again r is
+line_again (line.Vertex n) is = vertex_again n is
+line_again (line.Registers given) is = registers_again given is
+line_again (line.Flags f) is = fact_again f is
+line_again (line.Bound b) is = bound_again b is
+line_again (line.Node level node) is = node_again level node is
+line_again (line.Edges out) is = edges_again out is
+line_again line.End is = end_again
+
+-- no register of a list is given its own entry symbol
+none_own : (given : List (ℕ × Option PlainSum)) → Each IsGiven given → list_any is_own given ≡ false
+none_own [] all = refl
+none_own (g ∷ given) all = rw all.0.other (none_own given all.1)
+
+-- nor of a line
+gives_none : (l : Line) → IsLine l → gives_own l ≡ false
+gives_none (line.Function entry below above) is = refl
+gives_none (line.Refused entry) is = refl
+gives_none (line.Site addr kind) is = refl
+gives_none (line.Pair a b) is = refl
+gives_none (line.Fork a b) is = refl
+gives_none (line.Keep r) is = refl
+gives_none (line.Vertex n) is = refl
+gives_none (line.Registers given) is = none_own given is.0
+gives_none (line.Flags f) is = refl
+gives_none (line.Bound b) is = refl
+gives_none (line.Node level node) is = refl
+gives_none (line.Edges out) is = refl
+gives_none line.End is = refl
+
+-- bytes are themselves
+same_bytes : (w : List ℕ) → bytes_eq w w ≡ true
+same_bytes w = (bytes_eq-Decides w w).1 refl
+
+-- the text of a line is read as the line
+pub line_reads : (l : Line) → IsLine l → line_at (line_text l) ≡ Ok l
+unfolding line_at
+line_reads l is = rw (line_printable l is, mark_reads l, line_again l is, same_bytes (line_text l), gives_none l is) refl
+
+-- a line that is read
+abbrev read_as : Line → Result Line TextCause
+read_as l = Ok l
+
+-- one reading is of one line
+ok_is : (a b : Line) → read_as a ≡ read_as b → a ≡ b
+ok_is a b e = cc
+
+-- lines with one text are one
+pub line_text_one : (a b : Line) → IsLine a → IsLine b → line_text a ≡ line_text b → a ≡ b
+line_text_one a b a_is b_is e = ok_is a b (sym (line_reads a a_is) ∙ ap line_at e ∙ line_reads b b_is)

@@ -1,0 +1,13 @@
+pub mod WordLemmas
+pub mod EachLemmas
+pub mod PieceLemmas
+pub mod PutLemmas
+pub mod ReadLemmas
+pub mod OwnLemmas
+pub mod ByteLemmas
+pub mod MarkLemmas
+pub mod PlainLemmas
+pub mod TermPartLemmas
+pub mod TermLineLemmas
+pub mod ShortLemmas
+pub mod LawLemmas
