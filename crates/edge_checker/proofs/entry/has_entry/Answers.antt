@@ -1,0 +1,11 @@
+-- A register without a place has the default, which is unknown.
+use Rattle.std.proofs.Common.{◌≡◌, None, sym, ap, slice_get}
+use Rattle.sym_terms.specs.declared.kinds.Sym.TheVariants.{Entry}
+use Rattle.edge_checker.specs.Simple.{knows_symbol}
+use Rattle.edge_checker.proofs.PlaceLemmas.{get_or-past}
+use Rattle.edge_checker.proofs.entry.has_entry.Goals as goal
+
+pub returns-in-None : goal.returns-in-None
+returns-in-None c =
+    let past : slice_get c.p.inside.regs c.args.r ≡ None = rw c.from.ensures at (sym c.in-None.ensures.value) in
+    rw (← c.p.view_is) (sym (ap (knows_symbol (Entry c.args.r)) (get_or-past c.p.inside.regs c.args.r None past)))

@@ -1,0 +1,68 @@
+-- The sites that are built: what the decoder gives there, what it does, and the form of the site.
+use Rattle.std.specs.Prelude.{ℕ, ◌==◌, ◌&&◌, Bool, true, false, is_none, length, Some, None, if◌then◌else◌, option_and_then}
+use Rattle.std.specs.Option.{option_map}
+use Rattle.std.specs.List.{list_all}
+use Rattle.std.specs.declared.option.Option.{Option}
+use Rattle.bits_core.specs.declared.width.Width.{Width}
+use Rattle.bits_core.specs.declared.width.Width.TheVariants.{W64}
+use Rattle.x86_meaning.specs.declared.instr.Op.{Op}
+use Rattle.x86_meaning.specs.declared.instr.Op.TheVariants as op
+use Rattle.x86_meaning.specs.declared.instr.Operand.{Operand}
+use Rattle.x86_meaning.specs.declared.instr.Operand.TheVariants.{Reg, Imm}
+use Rattle.x86_meaning.specs.declared.instr.Instr.{Instr}
+use Rattle.x86_decode.specs.Reading.{first_instr}
+use Rattle.elf_image.specs.declared.image.Image.{Image}
+use Rattle.elf_image.specs.Image.{code_of}
+use Rattle.predicates.specs.declared.site.Kind.{Kind}
+use Rattle.predicates.specs.declared.site.Kind.TheVariants.{Step, Call, Outside, Return, End}
+use Rattle.hoare_graph.specs.declared.graph.Vertex.{Vertex}
+use Rattle.hoare_graph.specs.declared.graph.Site.{Site}
+use Rattle.edge_checker.specs.declared.instruction.Effect.{Effect}
+use Rattle.edge_checker.specs.declared.instruction.Effect.TheVariants.{Nop, Ret, MoveImmediate}
+use Rattle.edge_checker.specs.declared.instruction.Instruction.{Instruction}
+use Rattle.edge_checker.specs.Simple.{is_simple}
+
+-- the instruction at an address, as the decoder reads it
+abbrev pub instruction_at : Image → ℕ → Option Instr
+instruction_at image addr = first_instr addr (code_of image addr)
+
+-- a move of 64 bits of an immediate to a register
+abbrev pub move_of : Width → Operand → Operand → Option Effect
+move_of W64 (Reg register) (Imm value) = Some (MoveImmediate register value)
+move_of width dst src = None
+
+-- what an instruction of an operation does, where it is built: a nop, a return or such a move
+abbrev pub effect_for : Op → Instr → Option Effect
+effect_for op.Nop i = Some Nop
+effect_for op.Ret i = Some Ret
+effect_for op.Mov i = move_of i.width i.dst i.src
+effect_for _ i = None
+
+-- the instruction with its number of bytes, where it is built
+abbrev pub built_of : Instr → Option Instruction
+built_of i = option_map (λ effect. record { len = i.len; effect = effect }) (effect_for i.op i)
+
+-- the vertex of a step has one edge; a return needs none, and other kinds are not built
+abbrev pub has_one_edge : Kind → Vertex → Bool
+has_one_edge Step v = length v.out == 1
+has_one_edge (Call entry) v = false
+has_one_edge Outside v = false
+has_one_edge Return v = true
+has_one_edge (End reason) v = false
+
+-- a vertex has its one edge and a simple predicate
+abbrev pub has_one_case : Kind → Vertex → Bool
+has_one_case kind v = has_one_edge kind v && is_simple v.pred
+
+-- at a site no pair is taken as separate, no cases are told apart, and no region is kept
+abbrev pub assumes_nothing : Site → Bool
+assumes_nothing s = (length s.seps == 0) && (is_none s.fork && (length s.keeps == 0))
+
+-- a site assumes nothing and has one vertex, which has one case
+abbrev pub is_small : Site → Bool
+is_small s = assumes_nothing s && ((length s.vertices == 1) && list_all (has_one_case s.kind) s.vertices)
+
+-- the instruction at a site, where the site is built
+abbrev pub built_at : Image → Site → Option Instruction
+built_at image s =
+    if is_small s then option_and_then built_of (instruction_at image s.addr) else None
