@@ -21,6 +21,7 @@ mod writing;
 pub use laws::line_laws;
 pub use line::Line;
 pub use mark::{Mark, mark_of};
+pub use own::is_own;
 pub use plain_writing::{
     put_edges_line, put_end_line, put_function_line, put_refused_line, put_site_line,
     put_vertex_line,
@@ -31,4 +32,5 @@ pub use term_writing::{
     put_bound_line, put_fact_line, put_fork_line, put_given, put_keep_line, put_node_line,
     put_pair_line, put_registers_line,
 };
+pub use words::split_at;
 pub use writing::put_line;

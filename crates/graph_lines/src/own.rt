@@ -31,7 +31,8 @@ fn has_own(given: &[(u8, Option<Term>)]) -> bool
     false
 }
 
-fn is_own(register: u8, value: &Option<Term>) -> bool
+/// Whether a register is given its own entry symbol, which no line says.
+pub fn is_own(register: u8, value: &Option<Term>) -> bool
     ensures { result ≡ is_own_value (register, value.now) }
 {
     match value {

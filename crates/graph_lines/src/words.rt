@@ -6,7 +6,7 @@ ghost use Rattle.graph_lines.specs.Words.{split_at as split_of, is_printable as 
 ghost use Rattle.graph_lines.specs.Loose.{strip as stripped};
 
 /// What stands before the first byte that is the mark, and what stands behind it.
-pub(crate) fn split_at(bytes: &[u8], mark: u8) -> Option<(&[u8], &[u8])>
+pub fn split_at(bytes: &[u8], mark: u8) -> Option<(&[u8], &[u8])>
     ensures exact { option_map (λ p. (p.0.now, p.1.now)) result ≡ split_of mark bytes.now }
     ensures shorter { IfSome result (λ p. length p.1.now < length bytes.now) }
 {

@@ -1,0 +1,139 @@
+-- What holds behind a line that is taken.
+use Rattle.std.proofs.Common.{◌≡◌, ℕ, Bool, true, false, Option, Some, None, IsTrue, IfSome, List, [], ◌∷◌, ◌++◌, length, append_assoc, refl, sym, ap, ◌∙◌, subst}
+use Rattle.std.proofs.lemmas.List.{append-nil}
+use Rattle.std.specs.List.{flat_map}
+use Rattle.sym_terms.specs.Plain.{PlainSum}
+use Rattle.predicates.specs.declared.site.Kind.{Kind}
+use Rattle.predicates.specs.Entry.{entry_registers}
+use Rattle.hoare_graph.specs.declared.graph.Site.{Site}
+use Rattle.hoare_graph.specs.declared.graph.Function.{Function}
+use Rattle.graph_lines.specs.declared.line.Line.{Line}
+use Rattle.graph_lines.specs.declared.line.Line.TheVariants as line
+use Rattle.graph_lines.specs.declared.mark.Mark.{Mark}
+use Rattle.graph_lines.specs.Line.{IsLine}
+use Rattle.graph_lines.specs.Text.{line_text}
+use Rattle.graph_lines.specs.Mark.{mark_of, mark_for}
+use Rattle.graph_text.specs.declared.reading.OpenVertex.{OpenVertex}
+use Rattle.graph_text.specs.declared.reading.Place.{Place}
+use Rattle.graph_text.specs.declared.reading.Place.TheVariants as place
+use Rattle.graph_text.specs.declared.reading.Reading.{Reading}
+use Rattle.graph_text.specs.Text.{head, ended, lines_text}
+use Rattle.graph_text.specs.Open.{registers_of}
+use Rattle.graph_text.specs.Close.{IsClosable, CanClose}
+use Rattle.graph_text.specs.Stands.{stands, may_stand}
+use Rattle.graph_text.specs.Order.{is_in_order}
+use Rattle.graph_text.specs.Limits.{is_within}
+use Rattle.graph_text.specs.Advance.{place_after, advanced, at_site, at_vertex, in_site, in_vertex}
+use Rattle.graph_text.specs.Reading.{behind_head, head_taken, taken, taken_at}
+use Rattle.graph_text.specs.SoFar.{AreRegisters, IsOpenVertex, IsOpenAt, IsOpen, lines_of, is_begin, text_at, read_text, Behind}
+use Rattle.graph_lines.proofs.MarkLemmas.{mark_reads}
+use Rattle.graph_text.proofs.SoFarLemmas.{open_begin, open_advanced, lines_advanced}
+
+-- ---- what is open can be closed
+
+sixteen : (regs : Option (List (Option PlainSum))) → IfSome regs AreRegisters → length (registers_of regs) ≡ 16
+sixteen None h = refl
+sixteen (Some regs) h = h.0
+
+closable : (kind : Kind) (v : OpenVertex) → IsOpenVertex kind v → IsClosable v
+closable kind v o = record { sixteen = sixteen v.regs o.regs; bounded = o.formed; forest = o.forest }
+
+close_at : (functions : List Function) (p : Place) → IsOpenAt functions p → CanClose p
+close_at functions place.Begin o = tt
+close_at functions place.Between o = tt
+close_at functions (place.Function f) o = tt
+close_at functions (place.Site f s) o = tt
+close_at functions (place.Vertex f s v) o = closable s.kind v o.1.1
+close_at functions place.End o = tt
+
+pub can_close : (r : Reading) → IsOpen r → CanClose r.place
+can_close r o = close_at r.functions r.place o.place
+
+-- ---- behind the head the first line doesn't come again
+
+site_begins : (addr : ℕ) (kind : Kind) (p : Place) → is_begin p ≡ false → is_begin (at_site addr kind p) ≡ false
+site_begins addr kind place.Begin e = e
+site_begins addr kind _ e = refl
+
+vertex_begins : (p : Place) → is_begin p ≡ false → is_begin (at_vertex p) ≡ false
+vertex_begins place.Begin e = e
+vertex_begins _ e = refl
+
+in_site_begins : (change : Site → Site) (p : Place) → is_begin p ≡ false → is_begin (in_site change p) ≡ false
+in_site_begins change place.Begin e = e
+in_site_begins change _ e = refl
+
+in_vertex_begins : (change : OpenVertex → OpenVertex) (p : Place) → is_begin p ≡ false → is_begin (in_vertex change p) ≡ false
+in_vertex_begins change place.Begin e = e
+in_vertex_begins change _ e = refl
+
+after_begins : (l : Line) (p : Place) → is_begin p ≡ false → is_begin (place_after l p) ≡ false
+after_begins (line.Function entry below above) p e = refl
+after_begins (line.Refused entry) p e = refl
+after_begins (line.Site addr kind) p e = site_begins addr kind p e
+after_begins (line.Pair a b) p e = in_site_begins _ p e
+after_begins (line.Fork a b) p e = in_site_begins _ p e
+after_begins (line.Keep a) p e = in_site_begins _ p e
+after_begins (line.Vertex n) p e = vertex_begins p e
+after_begins (line.Registers given) p e = in_vertex_begins _ p e
+after_begins (line.Flags fact) p e = in_vertex_begins _ p e
+after_begins (line.Bound b) p e = in_vertex_begins _ p e
+after_begins (line.Node level c) p e = in_vertex_begins _ p e
+after_begins (line.Edges out) p e = in_vertex_begins _ p e
+after_begins line.End p e = refl
+
+stands_begins : (p : Place) (m : Option Mark) → may_stand p m ≡ true → is_begin p ≡ false
+stands_begins p None e = absurd (cc)
+stands_begins place.Begin (Some m) e = absurd (cc)
+stands_begins _ (Some m) e = refl
+
+text_behind : (p : Place) (r : Reading) → is_begin p ≡ false → text_at p r ≡ ended head ++ lines_text (lines_of r)
+text_behind place.Begin r e = absurd (cc)
+text_behind _ r e = refl
+
+-- ---- the text that was read
+
+lines_push : (ls : List Line) (l : Line) → lines_text (ls ++ l ∷ []) ≡ lines_text ls ++ ended (line_text l)
+lines_push [] l = append-nil (ended (line_text l))
+lines_push (m ∷ ms) l = ap (λ t. ended (line_text m) ++ t) (lines_push ms l) ∙ sym (append_assoc (ended (line_text m)) (lines_text ms) (ended (line_text l)))
+
+-- behind a line that may stand, in order and within the limits
+pub behind : (r s : Reading) (l : Line) → IsOpen r → IsLine l → may_stand r.place (Some (mark_for l)) ≡ true → is_in_order r l ≡ true → is_within r.place l ≡ true
+    → s ≡ advanced r l → Behind r (line_text l) s
+behind r s l o h m n w e =
+    let begins : is_begin r.place ≡ false = stands_begins r.place (Some (mark_for l)) m in
+    let after : is_begin (place_after l r.place) ≡ false = after_begins l r.place begins in
+    let same : lines_of (advanced r l) ≡ lines_of r ++ l ∷ [] = lines_advanced r l o h m n w in
+    let text : read_text (advanced r l) ≡ read_text r ++ ended (line_text l) =
+    text_behind (place_after l r.place) (advanced r l) after
+    ∙ ap (λ ls. ended head ++ lines_text ls) same
+    ∙ ap (λ t. ended head ++ t) (lines_push (lines_of r) l)
+    ∙ sym (append_assoc (ended head) (lines_text (lines_of r)) (ended (line_text l)))
+    ∙ ap (λ t. t ++ ended (line_text l)) (sym (text_behind r.place r begins)) in
+    let P : Reading → Type 0 = λ q. Behind r (line_text l) q in
+    subst P (sym e) (record { is_open = open_advanced r l o h m n w; text = text })
+
+-- behind the head
+pub behind_begin : (r s : Reading) (bytes : List ℕ) → is_begin r.place ≡ true → bytes ≡ head → s ≡ behind_head → Behind r bytes s
+behind_begin r s bytes b e f =
+    let first : read_text r ≡ [] = at_first r.place r b in
+    let P : Reading → Type 0 = λ q. Behind r bytes q in
+    subst P (sym f) (record { is_open = open_begin; text = append-nil (ended head) ∙ ap ended (sym e) ∙ ap (λ t. t ++ ended bytes) (sym first) })
+  where
+    at_first : (p : Place) (q : Reading) → is_begin p ≡ true → text_at p q ≡ []
+    at_first place.Begin q e = refl
+    at_first _ q e = absurd (cc)
+
+-- ---- which line is taken where
+
+pub taken_first : (p : Place) (r : Reading) (bytes : List ℕ) → is_begin p ≡ true → taken_at p r bytes ≡ head_taken bytes
+taken_first place.Begin r bytes e = refl
+taken_first _ r bytes e = absurd (cc)
+
+pub taken_later : (p : Place) (r : Reading) (bytes : List ℕ) → is_begin p ≡ false → taken_at p r bytes ≡ taken r bytes
+taken_later place.Begin r bytes e = absurd (cc)
+taken_later _ r bytes e = refl
+
+-- a line is told by how its text begins
+pub mark_stands : (p : Place) (l : Line) (bytes : List ℕ) → bytes ≡ line_text l → may_stand p (mark_of bytes) ≡ true → may_stand p (Some (mark_for l)) ≡ true
+mark_stands p l bytes e h = ap (may_stand p) (sym (ap mark_of e ∙ mark_reads l)) ∙ h
