@@ -1,5 +1,5 @@
 -- Levels that are closed from the last one on, and registers that are set from the last one on.
-use Rattle.std.proofs.Common.{◌≡◌, ℕ, zero, suc, ◌+◌, ◌-◌, ◌≤◌, ◌<◌, Option, List, [], ◌∷◌, ◌++◌, length, take, drop, refl, sym, ap, ◌∙◌, slice_set, arith}
+use Rattle.std.proofs.Common.{◌≡◌, ℕ, zero, suc, ◌≤◌, Option, List, [], ◌∷◌, ◌++◌, length, take, drop, refl, sym, ap, ◌∙◌, slice_set}
 use Rattle.std.proofs.lemmas.List.{drop-append-le, take-append-le}
 use Rattle.sym_terms.specs.Plain.{PlainSum}
 use Rattle.mem_forest.specs.Plain.{Cells, Cell, cells}

@@ -1,10 +1,8 @@
 -- What holds behind a line that is taken.
-use Rattle.std.proofs.Common.{◌≡◌, ℕ, Bool, true, false, Option, Some, None, IsTrue, IfSome, List, [], ◌∷◌, ◌++◌, length, append_assoc, refl, sym, ap, ◌∙◌, subst}
+use Rattle.std.proofs.Common.{◌≡◌, ℕ, true, false, Option, Some, None, IfSome, List, [], ◌∷◌, ◌++◌, length, append_assoc, refl, sym, ap, ◌∙◌, subst}
 use Rattle.std.proofs.lemmas.List.{append-nil}
-use Rattle.std.specs.List.{flat_map}
 use Rattle.sym_terms.specs.Plain.{PlainSum}
 use Rattle.predicates.specs.declared.site.Kind.{Kind}
-use Rattle.predicates.specs.Entry.{entry_registers}
 use Rattle.hoare_graph.specs.declared.graph.Site.{Site}
 use Rattle.hoare_graph.specs.declared.graph.Function.{Function}
 use Rattle.graph_lines.specs.declared.line.Line.{Line}
@@ -20,7 +18,7 @@ use Rattle.graph_text.specs.declared.reading.Reading.{Reading}
 use Rattle.graph_text.specs.Text.{head, ended, lines_text}
 use Rattle.graph_text.specs.Open.{registers_of}
 use Rattle.graph_text.specs.Close.{IsClosable, CanClose}
-use Rattle.graph_text.specs.Stands.{stands, may_stand}
+use Rattle.graph_text.specs.Stands.{may_stand}
 use Rattle.graph_text.specs.Order.{is_in_order}
 use Rattle.graph_text.specs.Limits.{is_within}
 use Rattle.graph_text.specs.Advance.{place_after, advanced, at_site, at_vertex, in_site, in_vertex}

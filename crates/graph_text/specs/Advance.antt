@@ -1,9 +1,8 @@
 -- What a line adds to what the lines before it say.
-use Rattle.std.specs.Prelude.{ℕ, zero, suc, Option, Some, None, List, [], ◌∷◌, ◌++◌}
+use Rattle.std.specs.Prelude.{ℕ, zero, suc, Some, None, List, [], ◌∷◌, ◌++◌}
 use Rattle.mem_forest.specs.Plain.{Cell}
 use Rattle.mem_forest.specs.declared.region.Region.{Region}
 use Rattle.predicates.specs.declared.site.Kind.{Kind}
-use Rattle.predicates.specs.declared.bound.Bound.{Bound}
 use Rattle.hoare_graph.specs.declared.graph.Site.{Site}
 use Rattle.hoare_graph.specs.declared.graph.Refused.TheVariants.{NotCode}
 use Rattle.hoare_graph.specs.declared.graph.Function.{Function}
@@ -13,7 +12,7 @@ use Rattle.graph_text.specs.declared.reading.OpenVertex.{OpenVertex}
 use Rattle.graph_text.specs.declared.reading.Place.{Place}
 use Rattle.graph_text.specs.declared.reading.Place.TheVariants as place
 use Rattle.graph_text.specs.declared.reading.Reading.{Reading}
-use Rattle.graph_text.specs.Open.{filled, over, nested, empty_vertex, closed_site, closed_vertex, closed_function, with_vertex, with_site}
+use Rattle.graph_text.specs.Open.{filled, over, nested, empty_vertex, closed_site, closed_function, with_site}
 
 -- the function that a place leaves whole
 abbrev pub closed_at : Place → List Function

@@ -5,7 +5,6 @@ use Rattle.predicates.specs.declared.bound.Values.{Values}
 use Rattle.predicates.specs.declared.bound.Values.TheVariants.{Range, OneOf}
 use Rattle.graph_lines.specs.declared.line.Line.{Line}
 use Rattle.graph_lines.specs.declared.line.Line.TheVariants as line
-use Rattle.graph_text.specs.declared.reading.OpenVertex.{OpenVertex}
 use Rattle.graph_text.specs.declared.reading.Place.{Place}
 use Rattle.graph_text.specs.declared.reading.Place.TheVariants as place
 

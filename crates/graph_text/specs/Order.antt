@@ -1,5 +1,5 @@
 -- Whether a line follows those before it in order, and its parts each other.
-use Rattle.std.specs.Prelude.{ℕ, zero, suc, ◌+◌, ◌==◌, Bool, true, false, not, ◌&&◌, ◌||◌, nat_le, nat_lt, Option, Some, None, List, [], ◌∷◌, ◌++◌, length, map}
+use Rattle.std.specs.Prelude.{ℕ, zero, suc, ◌+◌, ◌==◌, Bool, true, false, not, ◌&&◌, ◌||◌, nat_le, nat_lt, Option, List, [], ◌∷◌, length}
 use Rattle.std.specs.List.{list_any}
 use Rattle.sym_terms.specs.Plain.{PlainSum}
 use Rattle.mem_forest.specs.Plain.{Cells, none, cell, Cell, cells}
@@ -10,12 +10,9 @@ use Rattle.predicates.specs.declared.bound.Values.{Values}
 use Rattle.predicates.specs.declared.bound.Values.TheVariants.{Range, OneOf}
 use Rattle.predicates.specs.declared.bound.Bound.{Bound}
 use Rattle.predicates.specs.Bounds.{in_order, numbers_ascend, key_before}
-use Rattle.hoare_graph.specs.declared.graph.Site.{Site}
-use Rattle.hoare_graph.specs.declared.graph.Function.{Function}
 use Rattle.hoare_graph.specs.Order.{region_before, pair_before}
 use Rattle.graph_lines.specs.declared.line.Line.{Line}
 use Rattle.graph_lines.specs.declared.line.Line.TheVariants as line
-use Rattle.graph_text.specs.declared.reading.OpenVertex.{OpenVertex}
 use Rattle.graph_text.specs.declared.reading.Place.{Place}
 use Rattle.graph_text.specs.declared.reading.Place.TheVariants as place
 use Rattle.graph_text.specs.declared.reading.Reading.{Reading}

@@ -1,5 +1,5 @@
 -- Which kinds of lines can stand at a place.
-use Rattle.std.specs.Prelude.{ℕ, Bool, true, false, not, ◌&&◌, ◌==◌, nat_le, is_none, Option, Some, None, List, length}
+use Rattle.std.specs.Prelude.{Bool, true, false, not, ◌&&◌, ◌==◌, nat_le, is_none, Option, Some, None, List, length}
 use Rattle.predicates.specs.declared.site.Kind.{Kind}
 use Rattle.hoare_graph.specs.declared.graph.Site.{Site}
 use Rattle.hoare_graph.specs.Order.{has_edges, may_fork, may_keep}

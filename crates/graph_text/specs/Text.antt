@@ -1,5 +1,5 @@
 -- The one text of a graph: its lines, each ended by a line feed.
-use Rattle.std.specs.Prelude.{ℕ, suc, ◌+◌, Bool, not, if◌then◌else◌, Option, Some, None, List, [], ◌∷◌, ◌++◌, codes, map, filter}
+use Rattle.std.specs.Prelude.{ℕ, suc, not, Option, Some, None, List, [], ◌∷◌, ◌++◌, codes, map, filter}
 use Rattle.std.specs.List.{flat_map, enumerate_from}
 use Rattle.sym_terms.specs.Plain.{PlainSum}
 use Rattle.mem_forest.specs.Plain.{Cells, none, cell}

@@ -1,4 +1,4 @@
-use Rattle.std.proofs.Common.{◌≤◌, length, drop, ap, ◌∙◌, rules, arith}
+use Rattle.std.proofs.Common.{◌≤◌, length, drop, ap, ◌∙◌, rules}
 use Rattle.graph_text.specs.Close.{closed_below}
 use Rattle.graph_text.proofs.CloseLemmas.{level_closed}
 use Rattle.graph_text.proofs.advance.take_level.Goals as goal

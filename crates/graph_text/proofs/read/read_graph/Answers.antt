@@ -1,4 +1,4 @@
-use Rattle.std.proofs.Common.{◌≡◌, ◌+◌, ◌≤◌, Some, Ok, Err, length, sym, ◌∙◌, ap, rules, arith}
+use Rattle.std.proofs.Common.{◌≡◌, Some, Ok, Err, sym, ◌∙◌, rules, arith}
 use Rattle.graph_lines.specs.Words.{split_at}
 use Rattle.graph_text.specs.SoFar.{read_text}
 use Rattle.graph_text.proofs.LawLemmas.{graph_only}
