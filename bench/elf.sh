@@ -8,8 +8,9 @@ top=$(cd "$(dirname "$0")/.." && pwd)
 need python3
 use_driver elf_bench
 use_folder
-python3 - "$driver" "$work" "${1:-64}" <<'PY'
+PYTHONDONTWRITEBYTECODE=1 PYTHONPATH=$top/bench python3 - "$driver" "$work" "${1:-64}" <<'PY'
 import os, struct, subprocess, sys, time
+from timing import timed
 
 program, work, mebibytes = sys.argv[1], sys.argv[2], int(sys.argv[3])
 
@@ -27,21 +28,6 @@ def write(size):
         file.truncate(size)
     return path
 
-# The least time of five, and the peak memory, of a program that reads the file.
-def timed(words, path):
-    best = peak = None
-    for _ in range(5):
-        with open(path, "rb") as file:
-            begun = time.perf_counter()
-            child = subprocess.Popen(words, stdin=file, stdout=subprocess.DEVNULL)
-            _, status, usage = os.wait4(child.pid, 0)
-            spent = time.perf_counter() - begun
-        if status:
-            sys.exit(f"bench/elf.sh: {words[0]} ended with {status}")
-        best = spent if best is None else min(best, spent)
-        peak = usage.ru_maxrss * 1024
-    return best, peak
-
 # The most memory of the program itself, while it waits for the first byte.
 def own(words):
     child = subprocess.Popen(words, stdin=subprocess.PIPE, stdout=subprocess.DEVNULL, stderr=subprocess.DEVNULL)
@@ -53,7 +39,7 @@ def own(words):
 
 size = mebibytes << 20
 path = write(size)
-spent, peak = timed([program], path)
+spent, peak, _ = timed([program], path)
 cat, _ = timed(["cat"], path)
 base = own([program])
 print(f"{mebibytes} MiB read in {spent:.3f} s, `cat` takes {cat:.3f} s: {spent / cat:.1f} times as long")

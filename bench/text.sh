@@ -10,8 +10,9 @@ top=$(cd "$(dirname "$0")/.." && pwd)
 need python3
 use_driver text_bench
 use_folder
-python3 - "$driver" "$work" "${1:-8}" <<'PY'
-import os, subprocess, sys, time
+PYTHONDONTWRITEBYTECODE=1 PYTHONPATH=$top/bench python3 - "$driver" "$work" "${1:-8}" <<'PY'
+import os, sys
+from timing import timed
 
 program, work, mebibytes = sys.argv[1], sys.argv[2], int(sys.argv[3])
 
@@ -45,22 +46,6 @@ def write(size):
             entry += 256
         file.write("end\n")
     return path
-
-# The least time of five, and the peak memory, of a program that reads the file.
-def timed(words, path):
-    best = peak = None
-    for _ in range(5):
-        with open(path, "rb") as file:
-            begun = time.perf_counter()
-            child = subprocess.Popen(words, stdin=file, stdout=subprocess.PIPE)
-            said = child.stdout.read()
-            _, status, usage = os.wait4(child.pid, 0)
-            spent = time.perf_counter() - begun
-        if status:
-            sys.exit(f"bench/text.sh: {words[0]} ended with {status}: {said!r}")
-        best = spent if best is None else min(best, spent)
-        peak = usage.ru_maxrss * 1024
-    return best, peak, said
 
 times = []
 for size in (mebibytes << 20, mebibytes << 21):
