@@ -52,7 +52,7 @@ for size in (mebibytes << 20, mebibytes << 21):
     path = write(size)
     length = os.path.getsize(path)
     spent, peak, said = timed([program], path)
-    if not said.endswith(b" %d bytes\n" % length):
+    if not said.endswith(b" %d bytes, %d in pieces\n" % (length, length)):
         sys.exit(f"bench/text.sh: {said!r} on a text of {length} bytes")
     lines, _, _ = timed(["wc", "-l"], path)
     times.append(spent)

@@ -482,7 +482,7 @@ def main():
         want = judged(data)
         due = f"line {want[0]}: {want[1]}" if want else None
         causes[want[1] if want else "read"] = causes.get(want[1] if want else "read", 0) + 1
-        if said != due and not (due is None and said.endswith(f" {len(data)} bytes")):
+        if said != due and not (due is None and said.endswith(f" {len(data)} bytes, {len(data)} in pieces")):
             wrong += 1
             if wrong <= 5:
                 print(f"differs: {said!r} in place of {due!r}\n{data.decode('latin-1')}")
