@@ -4,6 +4,8 @@
 #![tactic(auto)]
 
 mod pieces;
+#[cfg(test)]
+mod tests;
 
 use graph_text::{read_graph, write_graph};
 use pieces::length_in_pieces;
