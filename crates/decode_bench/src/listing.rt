@@ -10,7 +10,7 @@ pub struct Count {
     pub others: u64,
 }
 
-pub fn count_instructions(code: &[u8]) -> Count {
+pub(crate) fn count_instructions(code: &[u8]) -> Count {
     let mut count = Count {
         instructions: 0,
         others: 0,
@@ -31,7 +31,7 @@ pub fn count_instructions(code: &[u8]) -> Count {
 }
 
 // The line of the byte at an offset.
-pub fn line_of(alloc: Global, code: &[u8], at: usize) -> Result<String, AllocError>
+pub(crate) fn line_of(alloc: Global, code: &[u8], at: usize) -> Result<String, AllocError>
     requires { at < length code.now }
 {
     match decode(&code[at..], at as u64) {

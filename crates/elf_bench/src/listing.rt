@@ -2,7 +2,7 @@
 use elf_image::Segment;
 
 /// `x` where it is executable and `w` where it is writable, `-` in the place of either that it is not.
-pub fn flags_of(segment: &Segment) -> &'static str {
+pub(crate) fn flags_of(segment: &Segment) -> &'static str {
     match (segment.exec, segment.write) {
         (true, true) => "xw",
         (true, false) => "x-",

@@ -1,5 +1,5 @@
 // The outside itself: the system's files by their names, and its streams. They tell no content.
-ghost use Rattle.std.specs.Prelude.{None};
+ghost use Rattle.std.specs.Prelude.{◌≡◌, None, IfOk};
 
 use std::alloc::{AllocError, Global};
 use std::io::{Read, Seek, SeekFrom, Write};
@@ -21,7 +21,9 @@ pub struct FileShelf<'a, R: Files> {
 }
 
 impl<'a, R: Files> FileShelf<'a, R> {
-    pub fn new(alloc: Global, rt: &'a R) -> Result<Self, AllocError> {
+    pub fn new(alloc: Global, rt: &'a R) -> Result<Self, AllocError>
+        ensures { IfOk result (λ s. s.faults ≡ 0) }
+    {
         Ok(FileShelf {
             rt,
             alloc,
@@ -115,7 +117,10 @@ pub struct StreamSink<W> {
 }
 
 impl<W: Write> StreamSink<W> {
-    pub fn new(inner: W) -> Self {
+    pub fn new(inner: W) -> Self
+        ensures faults { result.faults ≡ 0 }
+        ensures stalls { result.stalls ≡ 0 }
+    {
         StreamSink {
             inner,
             faults: 0,

@@ -160,48 +160,51 @@ s 40007a ret\nv 0\nc [rsp0;8]=ra\nc [rsp0-8;8]=rbx0\nend\n",
 
 const FUNCTION: &str = "f 400078 65536 4096";
 
-// The texts are the graph of the code with one line spelled otherwise, or cut off.
+// The texts are the graph of the code with one line spelled otherwise, or cut off: the second and the ninth line, how many
+// bytes of the text stand there, and what is said of it.
+static FAULTY: [(&str, &str, usize, &str); 6] = [
+    (
+        FUNCTION,
+        "r rsp=+rsp0-8",
+        1000,
+        "foxdec: g: line 9: NotCanonical (4)\n",
+    ),
+    (
+        FUNCTION,
+        "r rsp=-8+rsp0",
+        1000,
+        "foxdec: g: line 9: NotCanonical (4)\n",
+    ),
+    (
+        FUNCTION,
+        "r rax=rax0 rsp=rsp0-8",
+        1000,
+        "foxdec: g: line 9: NotCanonical (4)\n",
+    ),
+    (
+        "f 400078 65536 4096\r",
+        "r rsp=rsp0-8",
+        1000,
+        "foxdec: g: line 2: BadLine (2)\n",
+    ),
+    (
+        FUNCTION,
+        "r rsp=rsp0-8",
+        20,
+        "foxdec: g: line 2: Unended (7)\n",
+    ),
+    (
+        FUNCTION,
+        "r rsp=rsp0-8",
+        0,
+        "foxdec: g: line 1: Unended (7)\n",
+    ),
+];
+
 #[test]
 fn names_the_first_faulty_line_of_a_text(rt: HostRuntime) -> Result<(), Fail> {
     let alloc = rt.alloc();
-    for (line_2, line_9, len, err) in [
-        (
-            FUNCTION,
-            "r rsp=+rsp0-8",
-            1000,
-            "foxdec: g: line 9: NotCanonical (4)\n",
-        ),
-        (
-            FUNCTION,
-            "r rsp=-8+rsp0",
-            1000,
-            "foxdec: g: line 9: NotCanonical (4)\n",
-        ),
-        (
-            FUNCTION,
-            "r rax=rax0 rsp=rsp0-8",
-            1000,
-            "foxdec: g: line 9: NotCanonical (4)\n",
-        ),
-        (
-            "f 400078 65536 4096\r",
-            "r rsp=rsp0-8",
-            1000,
-            "foxdec: g: line 2: BadLine (2)\n",
-        ),
-        (
-            FUNCTION,
-            "r rsp=rsp0-8",
-            20,
-            "foxdec: g: line 2: Unended (7)\n",
-        ),
-        (
-            FUNCTION,
-            "r rsp=rsp0-8",
-            0,
-            "foxdec: g: line 1: Unended (7)\n",
-        ),
-    ] {
+    for (line_2, line_9, len, err) in FAULTY {
         let mut text = push_pop(alloc, line_2, line_9)?.into_bytes();
         text.truncate(len);
         let files = files(alloc, executable(alloc, PUSH_POP)?, text)?;

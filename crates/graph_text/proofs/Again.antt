@@ -4,9 +4,10 @@ use Rattle.std.specs.declared.result.Result.{Result}
 use Rattle.std.specs.declared.result.Result.TheVariants.{Ok}
 use Rattle.hoare_graph.specs.declared.graph.Graph.{Graph}
 use Rattle.hoare_graph.specs.WellFormed.{IsWellFormed}
-use Rattle.graph_text.specs.declared.reading.Place.TheVariants as place
+use Rattle.open_graph.specs.declared.reading.Place.TheVariants as place
 use Rattle.graph_text.specs.declared.refusal.TextRefusal.{TextRefusal}
-use Rattle.graph_text.specs.Text.{graph_lines, graph_text}
+use Rattle.open_graph.specs.Lines.{graph_lines}
+use Rattle.graph_text.specs.Text.{graph_text}
 use Rattle.graph_text.specs.Reading.{graph_at}
 use Rattle.graph_text.proofs.AgainRun.{LineTexts, text_reads}
 use Rattle.graph_text.proofs.AgainFunction.{graph_reads}

@@ -4,9 +4,9 @@ use Rattle.std.specs.Int.{from_bool}
 use Rattle.sym_terms.specs.Plain.{PlainSum}
 use Rattle.mem_forest.specs.Plain.{Cells, none, cell, Cell, cells, count}
 use Rattle.mem_forest.specs.Search.{is_here, holders}
-use Rattle.graph_text.specs.Open.{over, nested}
-use Rattle.graph_text.specs.Limits.{count_of}
-use Rattle.graph_text.specs.Advance.{with_node}
+use Rattle.open_graph.specs.Open.{over, nested}
+use Rattle.open_graph.specs.Limits.{count_of}
+use Rattle.open_graph.specs.Advance.{with_node}
 
 -- the nodes of a forest's first level
 abbrev pub nodes_of : Cells → List Cell

@@ -12,17 +12,17 @@ use Rattle.hoare_graph.specs.declared.graph.Graph.{Graph}
 use Rattle.hoare_graph.specs.WellFormed.{IsSite, HasSites, HasBody, IsFunction, IsWellFormed}
 use Rattle.graph_lines.specs.declared.line.Line.TheVariants as line
 use Rattle.graph_lines.specs.declared.mark.Mark.TheVariants as mark
-use Rattle.graph_text.specs.declared.reading.OpenVertex.{OpenVertex}
-use Rattle.graph_text.specs.declared.reading.Place.{Place}
-use Rattle.graph_text.specs.declared.reading.Place.TheVariants as place
-use Rattle.graph_text.specs.declared.reading.Reading.{Reading}
-use Rattle.graph_text.specs.Text.{site_lines, body_lines, function_lines, graph_lines}
-use Rattle.graph_text.specs.Open.{closed_site, closed_function}
-use Rattle.graph_text.specs.Stands.{stands, is_whole}
-use Rattle.graph_text.specs.Order.{follows, entry_follows}
-use Rattle.graph_text.specs.Advance.{closed_at, new_function, refused_function}
-use Rattle.graph_text.specs.Reading.{behind_head}
-use Rattle.graph_text.proofs.AgainLists.{follows_push, follows_key, begins_first, ascends_in_order}
+use Rattle.open_graph.specs.declared.reading.OpenVertex.{OpenVertex}
+use Rattle.open_graph.specs.declared.reading.Place.{Place}
+use Rattle.open_graph.specs.declared.reading.Place.TheVariants as place
+use Rattle.open_graph.specs.declared.reading.Reading.{Reading}
+use Rattle.open_graph.specs.Lines.{site_lines, body_lines, function_lines, graph_lines}
+use Rattle.open_graph.specs.Open.{closed_site, closed_function, behind_head}
+use Rattle.open_graph.specs.Stands.{stands, is_whole}
+use Rattle.open_graph.specs.Order.{follows, entry_follows}
+use Rattle.open_graph.specs.Advance.{closed_at, new_function, refused_function}
+use Rattle.graph_text.proofs.AgainLists.{follows_key, begins_first, ascends_in_order}
+use Rattle.open_graph.proofs.SoFarOrder.{follows_last}
 use Rattle.graph_text.proofs.AgainSteps.{all_stepped, step_then, steps_then, Reads, elements}
 use Rattle.graph_text.proofs.AgainSite.{InSite, site_then}
 
@@ -82,7 +82,7 @@ module _ (functions : List Function) (f : Function) (none : f.sites ≡ []) wher
       let start : Reading = record { functions = functions; place = place.Vertex h.open_function h.open_site h.open_vertex } in
       let all : h.open_function.sites ++ closed_site h.open_site h.open_vertex ∷ [] ≡ t ∷ done = ap (λ g. g.sites) h.closed in
       let before : nat_lt h.open_site.addr s.addr ≡ true =
-      sym (follows_push site_before h.open_function.sites (closed_site h.open_site h.open_vertex) s)
+      sym (follows_last site_before h.open_function.sites (closed_site h.open_site h.open_vertex) s)
       ∙ ap (λ l. follows site_before l s) all ∙ order in
       record {
         behind = rest.behind;
@@ -150,7 +150,7 @@ entry_by functions place.Between g h e =
     sym (follows_key (λ f n. nat_lt f.entry n) (λ g. g.entry) functions g) ∙ ap (λ l. follows function_before l g) (sym (append-nil functions)) ∙ e
 entry_by functions (place.Function f) g h e = absurd h
 entry_by functions (place.Site f s) g h e = absurd h
-entry_by functions (place.Vertex f s v) g h e = sym (follows_push function_before functions (closed_function f s v) g) ∙ e
+entry_by functions (place.Vertex f s v) g h e = sym (follows_last function_before functions (closed_function f s v) g) ∙ e
 entry_by functions place.End g h e = absurd h
 
 module _ (done : List Function) (r : Reading) (h : HasFunctions done r) where

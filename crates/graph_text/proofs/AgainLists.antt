@@ -5,13 +5,8 @@ use Rattle.std.specs.List.{flat_map, list_all}
 use Rattle.std.proofs.lemmas.Bool.{and_parts, and_from, lt-ltb}
 use Rattle.predicates.specs.Bounds.{in_order}
 use Rattle.hoare_graph.specs.Parts.{Each, Ascends}
-use Rattle.graph_text.specs.Order.{follows}
-
--- the last of a list with one element more is that element
-pub follows_push : {A B : Type 0} (before : A → B → Bool) (xs : List A) (x : A) (y : B) → follows before (xs ++ x ∷ []) y ≡ before x y
-follows_push before [] x y = refl
-follows_push before (z ∷ []) x y = refl
-follows_push before (z ∷ w ∷ xs) x y = follows_push before (w ∷ xs) x y
+use Rattle.open_graph.specs.Order.{follows}
+use Rattle.open_graph.proofs.SoFarOrder.{follows_last}
 
 -- an order that looks at a key of the second
 pub follows_key : {A B C : Type 0} (before : A → C → Bool) (key : B → C) (xs : List A) (y : B) → follows (λ x z. before x (key z)) xs y ≡ follows before xs (key y)
@@ -32,7 +27,7 @@ begins_first before (x ∷ xs) = refl
 -- the rest of a list in order comes behind its first element
 pub begins_next : {A : Type 0} (before : A → A → Bool) (done : List A) (x : A) (xs : List A) → in_order before (x ∷ xs) ≡ true → Begins before (done ++ x ∷ []) xs
 begins_next before done x [] e = tt
-begins_next before done x (y ∷ ys) e = follows_push before done x y ∙ (and_parts (before x y) (in_order before (y ∷ ys)) e).0
+begins_next before done x (y ∷ ys) e = follows_last before done x y ∙ (and_parts (before x y) (in_order before (y ∷ ys)) e).0
 
 -- what is in order without its first element
 pub in_order_rest : {A : Type 0} (before : A → A → Bool) (x : A) (xs : List A) → in_order before (x ∷ xs) ≡ true → in_order before xs ≡ true

@@ -13,9 +13,10 @@ use Rattle.mem_forest.specs.Plain.{Cells, none, cell, Cell, cells}
 use Rattle.mem_forest.specs.Search.{has}
 use Rattle.mem_forest.specs.Shape.{comes_before, precedes}
 use Rattle.hoare_graph.specs.Parts.{Each}
-use Rattle.graph_text.specs.Open.{over, nested}
-use Rattle.graph_text.specs.Order.{follows, level_at, meets}
-use Rattle.graph_text.proofs.AgainLists.{follows_push, each_from}
+use Rattle.open_graph.specs.Open.{over, nested}
+use Rattle.open_graph.specs.Order.{follows, level_at, meets}
+use Rattle.graph_text.proofs.AgainLists.{each_from}
+use Rattle.open_graph.proofs.SoFarOrder.{follows_last}
 use Rattle.graph_text.proofs.AgainForest.{merged, leaf, weigh, weigh_all, at_region}
 
 -- ---- no node has a name and size that another has
@@ -86,4 +87,4 @@ comes_first (cell ns b v under rest) = refl
 
 pub comes_next : (nodes : List Cell) (c : Cell) (f : Cells) → precedes c.names c.bytes f ≡ true → Comes (nodes ++ c ∷ []) f
 comes_next nodes c none e = tt
-comes_next nodes c (cell ns b v under rest) e = follows_push before_node nodes c (leaf ns b v) ∙ e
+comes_next nodes c (cell ns b v under rest) e = follows_last before_node nodes c (leaf ns b v) ∙ e

@@ -16,11 +16,11 @@ use Rattle.hoare_graph.specs.declared.graph.Function.{Function}
 use Rattle.hoare_graph.specs.Parts.{Each}
 use Rattle.graph_lines.specs.declared.line.Line.{Line}
 use Rattle.graph_lines.specs.declared.line.Line.TheVariants as line
-use Rattle.graph_text.specs.declared.reading.Place.TheVariants as place
-use Rattle.graph_text.specs.declared.reading.Reading.{Reading}
-use Rattle.graph_text.specs.Text.{node_lines}
-use Rattle.graph_text.specs.Order.{follows, level_at, meets, node_fits}
-use Rattle.graph_text.specs.Limits.{count_of}
+use Rattle.open_graph.specs.declared.reading.Place.TheVariants as place
+use Rattle.open_graph.specs.declared.reading.Reading.{Reading}
+use Rattle.open_graph.specs.Lines.{node_lines}
+use Rattle.open_graph.specs.Order.{follows, level_at, meets, node_fits}
+use Rattle.open_graph.specs.Limits.{count_of}
 use Rattle.graph_text.proofs.AgainLists.{each_from}
 use Rattle.graph_text.proofs.AgainSteps.{all_stepped, step_then, steps_then}
 use Rattle.graph_text.proofs.AgainForest.{merged, with_node_at, leaf, levels_after, closed_leaf, weigh, weigh_all, at_region, weigh_holders, each_one, weigh_count, weigh_count_of, weigh_append, weigh_leaf, weigh_after}

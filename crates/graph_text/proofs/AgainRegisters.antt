@@ -15,9 +15,9 @@ use Rattle.predicates.proofs.EntryLemmas.{length_entries}
 use Rattle.hoare_graph.specs.Parts.{Each}
 use Rattle.hoare_graph.specs.WellFormed.{IsKnown}
 use Rattle.graph_lines.specs.Line.{is_own, IsGiven}
-use Rattle.graph_text.specs.Text.{given_of}
-use Rattle.graph_text.specs.Open.{filled}
-use Rattle.graph_text.specs.Order.{registers_ascend}
+use Rattle.open_graph.specs.Lines.{given_of}
+use Rattle.open_graph.specs.Open.{filled}
+use Rattle.open_graph.specs.Order.{registers_ascend}
 
 -- whether a register is given
 abbrev is_given : ℕ × Option PlainSum → Bool

@@ -14,12 +14,13 @@ use Rattle.graph_lines.specs.Line.{IsLine}
 use Rattle.graph_lines.specs.Text.{line_text}
 use Rattle.graph_lines.specs.Mark.{mark_of, mark_for}
 use Rattle.graph_lines.specs.Reading.{onward, line_at}
-use Rattle.graph_text.specs.declared.reading.Place.{Place}
-use Rattle.graph_text.specs.declared.reading.Place.TheVariants as place
-use Rattle.graph_text.specs.declared.reading.Reading.{Reading}
-use Rattle.graph_text.specs.Stands.{may_stand, stands}
+use Rattle.open_graph.specs.declared.reading.Place.{Place}
+use Rattle.open_graph.specs.declared.reading.Place.TheVariants as place
+use Rattle.open_graph.specs.declared.reading.Reading.{Reading}
+use Rattle.open_graph.specs.Stands.{may_stand, stands}
 use Rattle.graph_text.specs.Text.{head, ended, lines_text}
-use Rattle.graph_text.specs.Reading.{at_begin, behind_head, judged, taken, taken_at, line_taken, finished, run, graph_at}
+use Rattle.open_graph.specs.Open.{at_begin, behind_head}
+use Rattle.graph_text.specs.Reading.{judged, taken, taken_at, line_taken, finished, run, graph_at}
 use Rattle.graph_text.proofs.AgainSteps.{stepped, all_stepped}
 use Rattle.graph_text.proofs.AgainText.{run_more, line_printable}
 use Rattle.graph_lines.specs.Short.{IsShort}

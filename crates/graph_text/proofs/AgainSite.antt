@@ -15,14 +15,14 @@ use Rattle.hoare_graph.specs.Parts.{Each}
 use Rattle.hoare_graph.specs.Order.{region_before, pair_before, has_edges, may_fork, may_keep}
 use Rattle.hoare_graph.specs.WellFormed.{IsVertex, IsSite, fork_fits}
 use Rattle.graph_lines.specs.declared.line.Line.TheVariants as line
-use Rattle.graph_text.specs.declared.reading.OpenVertex.{OpenVertex}
-use Rattle.graph_text.specs.declared.reading.Place.TheVariants as place
-use Rattle.graph_text.specs.declared.reading.Reading.{Reading}
-use Rattle.graph_text.specs.Text.{pred_lines, edges_lines, vertex_lines, fork_lines}
-use Rattle.graph_text.specs.Open.{empty_vertex, closed_vertex, with_vertex, closed_site}
-use Rattle.graph_text.specs.Stands.{is_whole}
-use Rattle.graph_text.specs.Order.{follows}
-use Rattle.graph_text.specs.Advance.{new_site}
+use Rattle.open_graph.specs.declared.reading.OpenVertex.{OpenVertex}
+use Rattle.open_graph.specs.declared.reading.Place.TheVariants as place
+use Rattle.open_graph.specs.declared.reading.Reading.{Reading}
+use Rattle.open_graph.specs.Lines.{pred_lines, edges_lines, vertex_lines, fork_lines}
+use Rattle.open_graph.specs.Open.{empty_vertex, closed_vertex, with_vertex, closed_site}
+use Rattle.open_graph.specs.Stands.{is_whole}
+use Rattle.open_graph.specs.Order.{follows}
+use Rattle.open_graph.specs.Advance.{new_site}
 use Rattle.graph_text.proofs.AgainLists.{begins_first}
 use Rattle.graph_text.proofs.AgainSteps.{all_stepped, step_then, steps_then, Reads, elements}
 use Rattle.graph_text.proofs.AgainVertex.{opened, closed_opened, whole_opened, vertex_then}

@@ -11,11 +11,11 @@ use Rattle.hoare_graph.specs.Parts.{Each}
 use Rattle.graph_lines.specs.declared.line.Line.{Line}
 use Rattle.graph_lines.specs.Mark.{mark_for}
 use Rattle.graph_lines.specs.Reading.{onward}
-use Rattle.graph_text.specs.declared.reading.Reading.{Reading}
-use Rattle.graph_text.specs.Stands.{stands}
-use Rattle.graph_text.specs.Order.{follows, is_in_order}
-use Rattle.graph_text.specs.Limits.{is_within}
-use Rattle.graph_text.specs.Advance.{advanced}
+use Rattle.open_graph.specs.declared.reading.Reading.{Reading}
+use Rattle.open_graph.specs.Stands.{stands}
+use Rattle.open_graph.specs.Order.{follows, is_in_order}
+use Rattle.open_graph.specs.Limits.{is_within}
+use Rattle.open_graph.specs.Advance.{advanced}
 use Rattle.graph_text.specs.Reading.{judged}
 use Rattle.graph_text.proofs.AgainLists.{Begins, begins_next, in_order_rest}
 

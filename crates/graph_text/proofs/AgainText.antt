@@ -10,7 +10,7 @@ use Rattle.graph_lines.specs.declared.line.Line.{Line}
 use Rattle.graph_lines.specs.Words.{pieces, in_front, is_printable, are_printable}
 use Rattle.graph_lines.specs.Mark.{mark_of}
 use Rattle.graph_lines.specs.Reading.{onward, formed, line_at, loose_line, spelled}
-use Rattle.graph_text.specs.declared.reading.Reading.{Reading}
+use Rattle.open_graph.specs.declared.reading.Reading.{Reading}
 use Rattle.graph_text.specs.Text.{ended}
 use Rattle.graph_text.specs.Reading.{line_taken, placed, next, run}
 

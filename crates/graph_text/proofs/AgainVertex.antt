@@ -10,21 +10,21 @@ use Rattle.predicates.specs.declared.bound.Values.{Values}
 use Rattle.predicates.specs.declared.bound.Values.TheVariants.{Range, OneOf}
 use Rattle.predicates.specs.declared.bound.Bound.{Bound}
 use Rattle.predicates.specs.declared.site.Kind.{Kind}
-use Rattle.predicates.specs.Bounds.{key_before, keys_ascend, are_values, are_formed, numbers_ascend}
+use Rattle.predicates.specs.Bounds.{key_before, keys_ascend, are_values, are_formed, numbers_ascend, values_ascend}
 use Rattle.hoare_graph.specs.declared.graph.Vertex.{Vertex}
 use Rattle.hoare_graph.specs.declared.graph.Site.{Site}
 use Rattle.hoare_graph.specs.declared.graph.Function.{Function}
 use Rattle.hoare_graph.specs.Order.{has_edges}
 use Rattle.hoare_graph.specs.WellFormed.{IsVertex, edges_fit}
 use Rattle.graph_lines.specs.declared.line.Line.TheVariants as line
-use Rattle.graph_text.specs.declared.reading.OpenVertex.{OpenVertex}
-use Rattle.graph_text.specs.declared.reading.Place.TheVariants as place
-use Rattle.graph_text.specs.declared.reading.Reading.{Reading}
-use Rattle.graph_text.specs.Text.{given_of, registers_lines, flags_lines, node_lines, edges_lines, pred_lines}
-use Rattle.graph_text.specs.Open.{filled, registers_of, nested, empty_vertex, closed_vertex}
-use Rattle.graph_text.specs.Stands.{is_whole}
-use Rattle.graph_text.specs.Order.{follows, registers_ascend, values_ascend}
-use Rattle.graph_text.specs.Limits.{are_few}
+use Rattle.open_graph.specs.declared.reading.OpenVertex.{OpenVertex}
+use Rattle.open_graph.specs.declared.reading.Place.TheVariants as place
+use Rattle.open_graph.specs.declared.reading.Reading.{Reading}
+use Rattle.open_graph.specs.Lines.{given_of, registers_lines, flags_lines, node_lines, edges_lines, pred_lines}
+use Rattle.open_graph.specs.Open.{filled, registers_of, nested, empty_vertex, closed_vertex}
+use Rattle.open_graph.specs.Stands.{is_whole}
+use Rattle.open_graph.specs.Order.{follows, registers_ascend}
+use Rattle.open_graph.specs.Limits.{are_few}
 use Rattle.graph_text.proofs.AgainLists.{each_all, begins_first}
 use Rattle.graph_text.proofs.AgainSteps.{all_stepped, step_then, steps_then, Reads, elements}
 use Rattle.graph_text.proofs.AgainForest.{levels_after, nested_after}

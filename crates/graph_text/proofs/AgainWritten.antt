@@ -24,7 +24,7 @@ use Rattle.hoare_graph.specs.Order.{has_edges}
 use Rattle.hoare_graph.specs.WellFormed.{IsNumber, ArePair, IsRegion, HasTerms, IsFact, IsBound, IsPred, IsEdge, edges_fit, IsVertex, IsSite, HasBody, IsFunction, IsWellFormed}
 use Rattle.graph_lines.specs.declared.line.Line.TheVariants as line
 use Rattle.graph_lines.specs.Line.{IsGiven, HasNumber}
-use Rattle.graph_text.specs.Text.{given_of, registers_lines, flags_lines, node_lines, edges_lines, pred_lines, vertex_lines, fork_lines, site_lines, body_lines, function_lines, graph_lines}
+use Rattle.open_graph.specs.Lines.{given_of, registers_lines, flags_lines, node_lines, edges_lines, pred_lines, vertex_lines, fork_lines, site_lines, body_lines, function_lines, graph_lines}
 use Rattle.graph_text.proofs.AgainLists.{each_append, each_map, each_flat, each_both, each_all}
 use Rattle.graph_text.proofs.AgainRegisters.{given_each, given_few}
 use Rattle.graph_lines.specs.Short.{AreFew}

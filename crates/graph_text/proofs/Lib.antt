@@ -1,5 +1,3 @@
-pub mod OrderLemmas
-pub mod CloseLemmas
 pub mod AgainLists
 pub mod AgainSteps
 pub mod AgainForest
@@ -13,15 +11,6 @@ pub mod AgainSite
 pub mod AgainFunction
 pub mod AgainWritten
 pub mod Again
-pub mod SoFarOrder
-pub mod SoFarLevels
-pub mod SoFarForest
-pub mod SoFarRegisters
-pub mod SoFarClosing
-pub mod SoFarLines
-pub mod SoFarParts
-pub mod SoFarSteps
-pub mod SoFarLemmas
 pub mod RunLemmas
 pub mod TakeLemmas
 pub mod WriteLemmas

@@ -11,11 +11,13 @@ use Rattle.term_text.specs.Reading.{Fails}
 use Rattle.hoare_graph.specs.declared.graph.Graph.{Graph}
 use Rattle.graph_lines.specs.Words.{split_at, pieces}
 use Rattle.graph_lines.proofs.WordLemmas as words
-use Rattle.graph_text.specs.declared.reading.Reading.{Reading}
+use Rattle.open_graph.specs.declared.reading.Reading.{Reading}
 use Rattle.graph_text.specs.declared.refusal.TextRefusal.{TextRefusal}
-use Rattle.graph_text.specs.Reading.{at_begin, line_taken, finished, placed, next, run, graph_at, GivesGraph, refusal_at}
+use Rattle.open_graph.specs.Open.{at_begin}
+use Rattle.graph_text.specs.Reading.{line_taken, finished, placed, next, run, graph_at, GivesGraph, refusal_at}
 use Rattle.graph_text.specs.Text.{ended}
-use Rattle.graph_text.specs.SoFar.{IsOpen, read_text}
+use Rattle.open_graph.specs.SoFar.{IsOpen}
+use Rattle.graph_text.specs.SoFar.{read_text}
 use Rattle.graph_text.proofs.AgainText.{pieces_some, run_by}
 
 -- a line that is taken, and the lines behind it

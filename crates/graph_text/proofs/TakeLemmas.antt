@@ -1,51 +1,25 @@
 -- What holds behind a line that is taken.
-use Rattle.std.proofs.Common.{◌≡◌, ℕ, true, false, Option, Some, None, IfSome, List, [], ◌∷◌, ◌++◌, length, append_assoc, refl, sym, ap, ◌∙◌, subst}
+use Rattle.std.proofs.Common.{◌≡◌, ℕ, true, false, List, [], ◌∷◌, ◌++◌, append_assoc, refl, sym, ap, ◌∙◌, subst}
 use Rattle.std.proofs.lemmas.List.{append-nil}
-use Rattle.sym_terms.specs.Plain.{PlainSum}
 use Rattle.predicates.specs.declared.site.Kind.{Kind}
 use Rattle.hoare_graph.specs.declared.graph.Site.{Site}
-use Rattle.hoare_graph.specs.declared.graph.Function.{Function}
 use Rattle.graph_lines.specs.declared.line.Line.{Line}
 use Rattle.graph_lines.specs.declared.line.Line.TheVariants as line
 use Rattle.graph_lines.specs.declared.mark.Mark.{Mark}
-use Rattle.graph_lines.specs.Line.{IsLine}
 use Rattle.graph_lines.specs.Text.{line_text}
 use Rattle.graph_lines.specs.Mark.{mark_of, mark_for}
-use Rattle.graph_text.specs.declared.reading.OpenVertex.{OpenVertex}
-use Rattle.graph_text.specs.declared.reading.Place.{Place}
-use Rattle.graph_text.specs.declared.reading.Place.TheVariants as place
-use Rattle.graph_text.specs.declared.reading.Reading.{Reading}
+use Rattle.open_graph.specs.declared.reading.OpenVertex.{OpenVertex}
+use Rattle.open_graph.specs.declared.reading.Place.{Place}
+use Rattle.open_graph.specs.declared.reading.Place.TheVariants as place
+use Rattle.open_graph.specs.declared.reading.Reading.{Reading}
 use Rattle.graph_text.specs.Text.{head, ended, lines_text}
-use Rattle.graph_text.specs.Open.{registers_of}
-use Rattle.graph_text.specs.Close.{IsClosable, CanClose}
-use Rattle.graph_text.specs.Stands.{may_stand}
-use Rattle.graph_text.specs.Order.{is_in_order}
-use Rattle.graph_text.specs.Limits.{is_within}
-use Rattle.graph_text.specs.Advance.{place_after, advanced, at_site, at_vertex, in_site, in_vertex}
-use Rattle.graph_text.specs.Reading.{behind_head, head_taken, taken, taken_at}
-use Rattle.graph_text.specs.SoFar.{AreRegisters, IsOpenVertex, IsOpenAt, IsOpen, lines_of, is_begin, text_at, read_text, Behind}
+use Rattle.open_graph.specs.Open.{behind_head}
+use Rattle.open_graph.specs.Stands.{stands, may_stand, is_begin}
+use Rattle.open_graph.specs.Advance.{place_after, advanced, at_site, at_vertex, in_site, in_vertex}
+use Rattle.graph_text.specs.Reading.{head_taken, taken, taken_at}
+use Rattle.open_graph.specs.SoFar.{IsOpen, lines_of}
+use Rattle.graph_text.specs.SoFar.{text_at, read_text, Behind}
 use Rattle.graph_lines.proofs.MarkLemmas.{mark_reads}
-use Rattle.graph_text.proofs.SoFarLemmas.{open_begin, open_advanced, lines_advanced}
-
--- ---- what is open can be closed
-
-sixteen : (regs : Option (List (Option PlainSum))) → IfSome regs AreRegisters → length (registers_of regs) ≡ 16
-sixteen None h = refl
-sixteen (Some regs) h = h.0
-
-closable : (kind : Kind) (v : OpenVertex) → IsOpenVertex kind v → IsClosable v
-closable kind v o = record { sixteen = sixteen v.regs o.regs; bounded = o.formed; forest = o.forest }
-
-close_at : (functions : List Function) (p : Place) → IsOpenAt functions p → CanClose p
-close_at functions place.Begin o = tt
-close_at functions place.Between o = tt
-close_at functions (place.Function f) o = tt
-close_at functions (place.Site f s) o = tt
-close_at functions (place.Vertex f s v) o = closable s.kind v o.1.1
-close_at functions place.End o = tt
-
-pub can_close : (r : Reading) → IsOpen r → CanClose r.place
-can_close r o = close_at r.functions r.place o.place
 
 -- ---- behind the head the first line doesn't come again
 
@@ -80,10 +54,9 @@ after_begins (line.Node level c) p e = in_vertex_begins _ p e
 after_begins (line.Edges out) p e = in_vertex_begins _ p e
 after_begins line.End p e = refl
 
-stands_begins : (p : Place) (m : Option Mark) → may_stand p m ≡ true → is_begin p ≡ false
-stands_begins p None e = absurd (cc)
-stands_begins place.Begin (Some m) e = absurd (cc)
-stands_begins _ (Some m) e = refl
+stands_begins : (p : Place) (m : Mark) → stands p m ≡ true → is_begin p ≡ false
+stands_begins place.Begin m e = absurd (cc)
+stands_begins _ m e = refl
 
 text_behind : (p : Place) (r : Reading) → is_begin p ≡ false → text_at p r ≡ ended head ++ lines_text (lines_of r)
 text_behind place.Begin r e = absurd (cc)
@@ -95,21 +68,23 @@ lines_push : (ls : List Line) (l : Line) → lines_text (ls ++ l ∷ []) ≡ lin
 lines_push [] l = append-nil (ended (line_text l))
 lines_push (m ∷ ms) l = ap (λ t. ended (line_text m) ++ t) (lines_push ms l) ∙ sym (append_assoc (ended (line_text m)) (lines_text ms) (ended (line_text l)))
 
--- behind a line that may stand, in order and within the limits
-pub behind : (r s : Reading) (l : Line) → IsOpen r → IsLine l → may_stand r.place (Some (mark_for l)) ≡ true → is_in_order r l ≡ true → is_within r.place l ≡ true
-    → s ≡ advanced r l → Behind r (line_text l) s
-behind r s l o h m n w e =
-    let begins : is_begin r.place ≡ false = stands_begins r.place (Some (mark_for l)) m in
-    let after : is_begin (place_after l r.place) ≡ false = after_begins l r.place begins in
-    let same : lines_of (advanced r l) ≡ lines_of r ++ l ∷ [] = lines_advanced r l o h m n w in
-    let text : read_text (advanced r l) ≡ read_text r ++ ended (line_text l) =
-    text_behind (place_after l r.place) (advanced r l) after
+-- behind a line that may stand, and that is the last of the lines that were read
+pub behind : (r s : Reading) (l : Line) → stands r.place (mark_for l) ≡ true → s ≡ advanced r l → IsOpen s → lines_of s ≡ lines_of r ++ l ∷ []
+    → Behind r (line_text l) s
+behind r s l m e o same =
+    let begins : is_begin r.place ≡ false = stands_begins r.place (mark_for l) m in
+    let after : is_begin s.place ≡ false = ap (λ q. is_begin q.place) e ∙ after_begins l r.place begins in
+    let text : read_text s ≡ read_text r ++ ended (line_text l) =
+    text_behind s.place s after
     ∙ ap (λ ls. ended head ++ lines_text ls) same
     ∙ ap (λ t. ended head ++ t) (lines_push (lines_of r) l)
     ∙ sym (append_assoc (ended head) (lines_text (lines_of r)) (ended (line_text l)))
     ∙ ap (λ t. t ++ ended (line_text l)) (sym (text_behind r.place r begins)) in
-    let P : Reading → Type 0 = λ q. Behind r (line_text l) q in
-    subst P (sym e) (record { is_open = open_advanced r l o h m n w; text = text })
+    record { is_open = o; text = text }
+
+-- behind the head nothing was read
+pub open_begin : IsOpen behind_head
+open_begin = record { functions = tt; ascending = tt; place = tt }
 
 -- behind the head
 pub behind_begin : (r s : Reading) (bytes : List ℕ) → is_begin r.place ≡ true → bytes ≡ head → s ≡ behind_head → Behind r bytes s
@@ -133,5 +108,5 @@ taken_later place.Begin r bytes e = absurd (cc)
 taken_later _ r bytes e = refl
 
 -- a line is told by how its text begins
-pub mark_stands : (p : Place) (l : Line) (bytes : List ℕ) → bytes ≡ line_text l → may_stand p (mark_of bytes) ≡ true → may_stand p (Some (mark_for l)) ≡ true
+pub mark_stands : (p : Place) (l : Line) (bytes : List ℕ) → bytes ≡ line_text l → may_stand p (mark_of bytes) ≡ true → stands p (mark_for l) ≡ true
 mark_stands p l bytes e h = ap (may_stand p) (sym (ap mark_of e ∙ mark_reads l)) ∙ h

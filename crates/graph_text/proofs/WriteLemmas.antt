@@ -9,7 +9,8 @@ use Rattle.graph_lines.specs.Words.{joined}
 use Rattle.graph_lines.specs.Line.{is_own}
 use Rattle.graph_lines.specs.Text.{line_text, given_text}
 use Rattle.graph_lines.proofs.PutLemmas.{to_write}
-use Rattle.graph_text.specs.Text.{ended, lines_text, registers_lines}
+use Rattle.graph_text.specs.Text.{ended, lines_text}
+use Rattle.open_graph.specs.Lines.{registers_lines}
 
 -- lines one after another
 pub lines_append : (ls ms : List Line) → lines_text (ls ++ ms) ≡ lines_text ls ++ lines_text ms

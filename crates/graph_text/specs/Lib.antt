@@ -1,9 +1,3 @@
 pub mod Text
-pub mod Open
-pub mod Close
-pub mod Stands
-pub mod Order
-pub mod Limits
-pub mod Advance
 pub mod Reading
 pub mod SoFar

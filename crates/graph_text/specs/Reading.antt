@@ -1,5 +1,5 @@
 -- The graph that a text is, or the first faulty line with its first cause.
-use Rattle.std.specs.Prelude.{◌≡◌, ℕ, ◌+◌, ◌==◌, Bool, true, false, ◌&&◌, nat_lt, if◌then◌else◌, List, [], ◌∷◌, length}
+use Rattle.std.specs.Prelude.{◌≡◌, ℕ, ◌+◌, ◌==◌, ◌&&◌, nat_lt, if◌then◌else◌, List, [], ◌∷◌, length}
 use Rattle.std.specs.declared.result.Result.{Result}
 use Rattle.std.specs.declared.result.Result.TheVariants.{Ok, Err}
 use Rattle.std.specs.Str.{bytes_eq}
@@ -10,22 +10,16 @@ use Rattle.graph_lines.specs.declared.line.Line.{Line}
 use Rattle.graph_lines.specs.Words.{pieces}
 use Rattle.graph_lines.specs.Mark.{mark_of}
 use Rattle.graph_lines.specs.Reading.{onward, line_at}
-use Rattle.graph_text.specs.declared.reading.Place.{Place}
-use Rattle.graph_text.specs.declared.reading.Place.TheVariants as place
-use Rattle.graph_text.specs.declared.reading.Reading.{Reading}
+use Rattle.open_graph.specs.declared.reading.Place.{Place}
+use Rattle.open_graph.specs.declared.reading.Place.TheVariants as place
+use Rattle.open_graph.specs.declared.reading.Reading.{Reading}
 use Rattle.graph_text.specs.declared.refusal.TextRefusal.{TextRefusal}
 use Rattle.graph_text.specs.Text.{head}
-use Rattle.graph_text.specs.Stands.{may_stand}
-use Rattle.graph_text.specs.Order.{is_in_order}
-use Rattle.graph_text.specs.Limits.{is_within}
-use Rattle.graph_text.specs.Advance.{advanced}
-
--- before the first line, and behind it
-abbrev pub at_begin : Reading
-at_begin = record { functions = []; place = place.Begin }
-
-abbrev pub behind_head : Reading
-behind_head = record { functions = []; place = place.Between }
+use Rattle.open_graph.specs.Open.{at_begin, behind_head}
+use Rattle.open_graph.specs.Stands.{may_stand, is_ended}
+use Rattle.open_graph.specs.Order.{is_in_order}
+use Rattle.open_graph.specs.Limits.{is_within}
+use Rattle.open_graph.specs.Advance.{advanced}
 
 -- a line that has its form and spelling: its order comes before its limits
 unfoldable pub judged : Reading → Line → Result Reading TextCause
@@ -47,11 +41,6 @@ taken_at _ r bytes = taken r bytes
 -- what the lines say with one more, which has at most 32,768 bytes
 unfoldable pub line_taken : Reading → List ℕ → Result Reading TextCause
 line_taken r bytes = if nat_lt 32768 (length bytes) then Err cause.OverLimit else taken_at r.place r bytes
-
--- whether the last line was read
-abbrev pub is_ended : Place → Bool
-is_ended place.End = true
-is_ended _ = false
 
 -- what stands behind the last line feed: nothing, where the last line was read
 unfoldable pub finished : Reading → List ℕ → Result Graph TextCause

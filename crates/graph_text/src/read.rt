@@ -5,10 +5,11 @@ ghost use Rattle.hoare_graph.specs.WellFormed.{IsWellFormed};
 ghost use Rattle.graph_text.specs.Text.{graph_text};
 ghost use Rattle.graph_text.specs.Reading.{graph_at, refusal_at, GivesGraph};
 
-use crate::reading::Reading;
 use crate::refusal::TextRefusal;
+use crate::take::{finish, take_line};
 use graph_lines::split_at;
 use hoare_graph::Graph;
+use open_graph::Reading;
 use std::alloc::Global;
 use term_text::TextCause;
 
@@ -43,14 +44,14 @@ pub fn read_graph(alloc: Global, text: &[u8]) -> Result<Graph, TextRefusal>
     let mut line = 1;
     let mut rest = text;
     while let Some((bytes, behind)) = split_at(rest, b'\n') {
-        match reading.take_line(alloc, bytes, &mut buffer) {
+        match take_line(alloc, reading, bytes, &mut buffer) {
             Ok(next) => reading = next,
             Err(cause) => return Err(refusal_at(line, cause)),
         }
         line += 1;
         rest = behind;
     }
-    match reading.finish(rest) {
+    match finish(reading, rest) {
         Ok(graph) => Ok(graph),
         Err(cause) => Err(refusal_at(line, cause)),
     }

@@ -4,7 +4,8 @@ ghost use Rattle.std.specs.List.{flat_map, enumerate_from};
 ghost use Rattle.mem_forest.specs.Plain.{cells, count};
 ghost use Rattle.graph_lines.specs.declared.line.Line.TheVariants as line;
 ghost use Rattle.graph_lines.specs.Text.{given_text};
-ghost use Rattle.graph_text.specs.Text.{given_of, registers_lines, flags_lines, node_lines, edges_lines, pred_lines, vertex_lines, fork_lines, site_lines, function_lines, lines_text, function_text, graph_text};
+ghost use Rattle.open_graph.specs.Lines.{given_of, registers_lines, flags_lines, node_lines, edges_lines, pred_lines, vertex_lines, fork_lines, site_lines, function_lines};
+ghost use Rattle.graph_text.specs.Text.{lines_text, function_text, graph_text};
 
 use graph_lines::{
     is_own, put_bound_line, put_edges_line, put_end_line, put_fact_line, put_fork_line,

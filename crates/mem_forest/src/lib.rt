@@ -12,5 +12,5 @@ mod tests;
 
 pub use forest::Forest;
 pub use laws::forest_laws;
-pub use node::Node;
+pub use node::{Node, room_after};
 pub use region::{Context, Region, Relation};

@@ -46,10 +46,24 @@ impl Model for Node {
 }
 
 impl Node {
+    /// Whether a term is one of the names, that is at difference 0 from it.
+    pub fn has_name(&self, at: &Term) -> bool
+        ensures { result ≡ has at.now self.now.names }
+    {
+        self.names.iter().any(|name| name.compare(at).is_eq())
+    }
+
+    /// Whether each name is below the next, in the order of terms.
+    pub fn names_ascend(&self) -> bool
+        ensures { result ≡ ascending self.now.names }
+    {
+        ascend(self.names.as_slice())
+    }
+
     fn is(&self, at: &Term, bytes: u8) -> bool
         ensures { result ≡ is_here at.now bytes self.now.names self.now.bytes }
     {
-        self.bytes == bytes && has_name(self.names.as_slice(), at)
+        self.bytes == bytes && self.has_name(at)
     }
 
     fn is_formed(&self) -> bool
@@ -58,7 +72,8 @@ impl Node {
         is_size(self.bytes) && are_names(self.names.as_slice())
     }
 
-    fn comes_before(&self, other: &Node) -> bool
+    /// Whether the node stands before another of its level: by first name, then size.
+    pub fn comes_before(&self, other: &Node) -> bool
         ensures { result ≡ comes_before self.now.names self.now.bytes other.now.names other.now.bytes }
     {
         compare_first(self.names.as_slice(), other.names.as_slice())
@@ -98,12 +113,6 @@ impl Node {
             under,
         })
     }
-}
-
-fn has_name(names: &[Term], at: &Term) -> bool
-    ensures { result ≡ has at.now names.now }
-{
-    names.iter().any(|name| name.compare(at).is_eq())
 }
 
 /// The sizes of a region.
@@ -156,9 +165,10 @@ pub(crate) fn are_shaped(nodes: &[Node]) -> bool
     true
 }
 
-/// What is left of `room` behind a place for each node; it stops where none is left, however deep.
+/// What is left of `room` behind a place for each node, at all levels, and `None` exactly where there are
+/// more nodes; it stops where none is left, however deep.
 #[cycle(room)]
-pub(crate) fn room_after(nodes: &[Node], room: u32) -> Option<u32>
+pub fn room_after(nodes: &[Node], room: u32) -> Option<u32>
     ensures { result ≡ left_after room (cells nodes.now) }
 {
     let mut left = room;

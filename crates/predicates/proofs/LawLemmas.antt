@@ -1,8 +1,5 @@
 -- The laws of entailment, from the lemmas on each kind of conjunct.
-use mathlib.Core.Bool.{Bool-set}
-use mathlib.Core.HLevel.{is_prop→PathP}
-use native.Mathlib.Nat.{ℕ_set}
-use Rattle.std.proofs.Common.{◌≡◌, ◌↔◌, ℕ, zero, suc, ◌+◌, ◌<◌, Bool, true, false, ◌&&◌, List, [], ◌∷◌, length, get_or, slice_get, zip, Option, Some, None, refl, sym, ap, ◌∙◌, subst, inl, inr, arith}
+use Rattle.std.proofs.Common.{◌≡◌, ℕ, zero, suc, ◌+◌, Bool, true, false, List, [], ◌∷◌, length, get_or, slice_get, zip, Option, Some, None, refl, sym, ap, subst, inl, inr, arith}
 use Rattle.std.specs.Prelude.{IsSomeAnd, is_some, if◌then◌else◌}
 use Rattle.std.specs.List.{list_all, Contains}
 use Rattle.std.specs.Option.{option_map, option_or}
@@ -15,17 +12,14 @@ use Rattle.mem_forest.specs.Search.{has}
 use Rattle.predicates.specs.declared.bound.Bound.{Bound}
 use Rattle.predicates.specs.declared.conjunct.Conjunct as conjunct
 use Rattle.predicates.specs.declared.conjunct.Conjunct.TheVariants as variant
-use Rattle.predicates.specs.Predicate.{Predicate}
-use Rattle.predicates.specs.Bounds.{are_bounds}
 use Rattle.predicates.specs.Holding.{same_term, holds_term, holds_flags, holds_bound}
 use Rattle.predicates.specs.Places.{node_under, holds_node}
-use Rattle.predicates.specs.Entails.{Entails}
-use Rattle.predicates.specs.Missing.{missing_from, missing_register, missing_bound, missing_cell, missing}
+use Rattle.predicates.specs.Missing.{missing_from, missing_register, missing_bound, missing_cell}
 use Rattle.predicates.specs.Laws.{ReflexiveLaw, TransitiveLaw, DecidedLaw, SameLaw}
 use Rattle.predicates.proofs.AmongLemmas.{passed_at}
 use Rattle.predicates.proofs.TermLemmas.{same_from, same_itself, term_known, term_holds, term_through, fact_known, fact_holds}
 use Rattle.predicates.proofs.WithinLemmas.{all_from, all_weaker, bound_itself, bound_through}
-use Rattle.predicates.proofs.CellLemmas.{HoldsAll, all_from_none, none_from_all}
+use Rattle.predicates.proofs.CellLemmas.{all_from_none, none_from_all}
 
 -- an address among names that pass passes
 named_passes : (p : PlainSum → Bool) (ns : List PlainSum) (x : PlainSum) → list_all p ns ≡ true → has x ns ≡ true → p x ≡ true

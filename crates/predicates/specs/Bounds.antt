@@ -17,6 +17,11 @@ in_order before (x ∷ y ∷ ys) = before x y && in_order before (y ∷ ys)
 abbrev pub numbers_ascend : List ℕ → Bool
 numbers_ascend numbers = in_order nat_lt numbers
 
+-- whether a low end isn't over the high end, and a list ascends
+abbrev pub values_ascend : Values → Bool
+values_ascend (Range low high) = nat_le low high
+values_ascend (OneOf numbers) = numbers_ascend numbers
+
 -- whether there are 1 to 1,024 numbers, ascending
 abbrev pub is_list : List ℕ → Bool
 is_list numbers = nat_le 1 (length numbers) && (nat_le (length numbers) 1024 && numbers_ascend numbers)

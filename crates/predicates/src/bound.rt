@@ -1,6 +1,6 @@
 ghost use Rattle.std.specs.Prelude.{◌≡◌, ◌&&◌, nat_le, IfOk, IsTrue};
 ghost use Rattle.std.specs.List.{list_all};
-ghost use Rattle.predicates.specs.Bounds.{numbers_ascend, is_list, are_values, keys_ascend, are_formed};
+ghost use Rattle.predicates.specs.Bounds.{numbers_ascend, values_ascend, is_list, are_values, keys_ascend, are_formed};
 ghost use Rattle.predicates.specs.Holding.{same_fact, is_among, are_within, holds_bound};
 
 use bits_core::Width;
@@ -56,6 +56,16 @@ impl FlagFact {
 const MOST_NUMBERS: usize = 1024;
 
 impl Values {
+    /// Whether a low end isn't over the high end, and the numbers of a list ascend.
+    pub fn ascend(&self) -> bool
+        ensures { result ≡ values_ascend self.now }
+    {
+        match self {
+            Values::Range(low, high) => *low <= *high,
+            Values::OneOf(numbers) => ascend(numbers.as_slice()),
+        }
+    }
+
     fn is_formed(&self) -> bool
         ensures { result ≡ are_values self.now }
     {

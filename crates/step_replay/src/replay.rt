@@ -112,6 +112,6 @@ fn agrees(alloc: Global, row: &str, choice: u8) -> Option<bool> {
 }
 
 // Whether some choice does, with the upper half cleared or kept where that is free.
-pub fn is_as_recorded(alloc: Global, row: &str) -> bool {
+pub(crate) fn is_as_recorded(alloc: Global, row: &str) -> bool {
     agrees(alloc, row, 0) == Some(true) || agrees(alloc, row, 16) == Some(true)
 }

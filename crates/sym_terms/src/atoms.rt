@@ -9,14 +9,16 @@ use crate::memory::NoMemory;
 use crate::numbers::{fit_number, pair_number};
 use crate::sum::{Atom, Sum};
 use sqlite_items::{Boxed, Items};
-use std::alloc::Global;
+use std::alloc::{AllocError, Global};
 
 pub fn atom_alone(alloc: Global, atom: Atom) -> Result<Sum, NoMemory>
     ensures { IfOk result (λ s. s ≡ alone (plain atom)) }
 {
-    let mut atoms = Items::new(alloc);
-    atoms.push((atom, 1))?;
-    Ok(Sum { constant: 0, atoms })
+    let atoms = Vec::from_array(alloc, [(atom, 1)]).map_err(AllocError::from)?;
+    Ok(Sum {
+        constant: 0,
+        atoms: Items::from_vec(atoms),
+    })
 }
 
 /// The fit of a sum in normal form, whatever the nodes of the result.

@@ -3,15 +3,30 @@
 //! refused, with status 1. `bench/text.sh` times it.
 #![tactic(auto)]
 
-mod pieces;
+#[cfg(test)]
+mod graph_tests;
 #[cfg(test)]
 mod tests;
 
-use graph_text::{read_graph, write_graph};
-use pieces::length_in_pieces;
+use graph_text::{read_graph, write_function, write_graph};
+use hoare_graph::Graph;
+use std::alloc::Global;
 use std::io;
 use std::io::Read;
 use std::process::ExitCode;
+use sym_terms::NoMemory;
+
+/// The bytes of the first line and of the last one, with their line feeds.
+const FIRST_AND_LAST: usize = 19;
+
+/// How many bytes the first line, each function written alone, and the last line have together.
+fn length_in_pieces(alloc: Global, graph: &Graph) -> Result<usize, NoMemory> {
+    let mut length = FIRST_AND_LAST;
+    for function in graph.functions.as_slice() {
+        length = length.saturating_add(write_function(alloc, function)?.len());
+    }
+    Ok(length)
+}
 
 fn main(rt: HostRuntime) -> io::Result<ExitCode> {
     let mut text = Vec::new(rt.alloc());

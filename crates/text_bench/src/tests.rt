@@ -1,4 +1,4 @@
-use crate::pieces::length_in_pieces;
+use crate::length_in_pieces;
 use graph_text::{TextCause, read_graph, write_function};
 use std::alloc::{AllocError, Global};
 use std::test::Fail;

@@ -1,7 +1,8 @@
 use Rattle.std.proofs.Common.{◌≡◌, ◌+◌, ◌≤◌, ◌++◌, length}
 use Rattle.graph_lines.specs.Words.{pieces}
 use Rattle.graph_text.specs.Reading.{run, graph_at}
-use Rattle.graph_text.specs.SoFar.{IsOpen, read_text}
+use Rattle.open_graph.specs.SoFar.{IsOpen}
+use Rattle.graph_text.specs.SoFar.{read_text}
 use Rattle.graph_text.proofs.read.read_graph.Given as goal
 
 abbrev pub invariant-loop-bytes : goal.invariant-loop-bytes

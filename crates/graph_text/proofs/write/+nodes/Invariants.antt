@@ -1,6 +1,7 @@
 use Rattle.std.proofs.Common.{◌≡◌, ◌++◌, ◌+◌, ◌<◌, ◌^◌, drop}
 use Rattle.mem_forest.specs.Plain.{cells, count}
-use Rattle.graph_text.specs.Text.{node_lines, lines_text}
+use Rattle.open_graph.specs.Lines.{node_lines}
+use Rattle.graph_text.specs.Text.{lines_text}
 use Rattle.graph_text.proofs.write.+nodes.Given as goal
 
 abbrev pub invariant-loop-node : goal.invariant-loop-node

@@ -1,6 +1,7 @@
 use Rattle.std.proofs.Common.{◌≡◌, ◌++◌, drop}
 use Rattle.std.specs.List.{flat_map}
-use Rattle.graph_text.specs.Text.{function_lines, lines_text}
+use Rattle.open_graph.specs.Lines.{function_lines}
+use Rattle.graph_text.specs.Text.{lines_text}
 use Rattle.graph_text.proofs.write.put_functions.Given as goal
 
 abbrev pub invariant-loop-function : goal.invariant-loop-function

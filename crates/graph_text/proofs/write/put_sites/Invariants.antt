@@ -1,6 +1,7 @@
 use Rattle.std.proofs.Common.{◌≡◌, ◌++◌, drop}
 use Rattle.std.specs.List.{flat_map}
-use Rattle.graph_text.specs.Text.{site_lines, lines_text}
+use Rattle.open_graph.specs.Lines.{site_lines}
+use Rattle.graph_text.specs.Text.{lines_text}
 use Rattle.graph_text.proofs.write.put_sites.Given as goal
 
 abbrev pub invariant-loop-site : goal.invariant-loop-site

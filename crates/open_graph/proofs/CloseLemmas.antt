@@ -1,0 +1,78 @@
+-- Levels that are closed from the last one on, and registers that are set from the last one on.
+use Rattle.std.proofs.Common.{◌≡◌, ℕ, zero, suc, ◌≤◌, Option, List, [], ◌∷◌, ◌++◌, length, take, drop, refl, sym, ap, ◌∙◌, slice_set}
+use Rattle.std.proofs.lemmas.List.{drop-append-le, take-append-le}
+use Rattle.sym_terms.specs.Plain.{PlainSum}
+use Rattle.mem_forest.specs.Plain.{Cells, Cell, cells}
+use Rattle.open_graph.specs.Open.{over, nested, filled}
+use Rattle.open_graph.specs.Close.{closed_below, closed_level, filled_over}
+use Rattle.open_graph.specs.Advance.{with_node}
+use Rattle.predicates.specs.Entry.{entry_registers}
+
+-- the last node of a level takes the forest
+pub over_push : (level : List Cell) (c : Cell) (f : Cells)
+    → over (level ++ c ∷ []) f ≡ level ++ (record { names = c.names; bytes = c.bytes; value = c.value; under = f }) ∷ []
+over_push [] c f = refl
+over_push (d ∷ []) c f = refl
+over_push (d ∷ e ∷ ds) c f = ap (λ ns. d ∷ ns) (over_push (e ∷ ds) c f)
+
+closed_push : (levels : List (List Cell)) (level nodes : List Cell)
+    → closed_below (levels ++ level ∷ []) nodes ≡ closed_below levels (over level (cells nodes))
+closed_push [] level nodes = refl
+closed_push (l ∷ ls) level nodes = ap (λ ns. over l (cells ns)) (closed_push ls level nodes)
+
+-- one level more is closed
+pub closed_step : (depth : ℕ) (all levels : List (List Cell)) (level nodes under : List Cell) → all ≡ levels ++ level ∷ [] → depth ≤ length levels
+    → under ≡ over level (cells nodes) → closed_below (drop depth levels) under ≡ closed_below (drop depth all) nodes
+closed_step depth all levels level nodes under e h u =
+    ap (closed_below (drop depth levels)) u
+    ∙ sym (closed_push (drop depth levels) level nodes)
+    ∙ ap (λ ls. closed_below ls nodes) (sym (drop-append-le depth levels (level ∷ []) h))
+    ∙ ap (λ ls. closed_below (drop depth ls) nodes) (sym e)
+
+pub left_step : (depth : ℕ) (all levels : List (List Cell)) (level : List Cell) → all ≡ levels ++ level ∷ [] → depth ≤ length levels
+    → take depth levels ≡ take depth all
+left_step depth all levels level e h = sym (take-append-le depth levels (level ∷ []) h) ∙ ap (take depth) (sym e)
+
+-- the levels' forest is that of the levels closed into one
+pub nested_push : (levels : List (List Cell)) (level : List Cell) → nested (levels ++ level ∷ []) ≡ cells (closed_below levels level)
+nested_push [] level = refl
+nested_push (l ∷ []) level = refl
+nested_push (l ∷ m ∷ ms) level = ap (λ f. cells (over l f)) (nested_push (m ∷ ms) level)
+
+closed_level_push : (levels : List (List Cell)) (level : List Cell) → closed_level (levels ++ level ∷ []) ≡ closed_below levels level
+closed_level_push [] level = refl
+closed_level_push (l ∷ []) level = refl
+closed_level_push (l ∷ m ∷ ms) level = ap (over l) (nested_push (m ∷ ms) level)
+
+-- the levels from a number on, closed into one
+pub level_closed : (depth : ℕ) (all levels : List (List Cell)) (level nodes : List Cell) → all ≡ levels ++ level ∷ [] → depth ≤ length levels
+    → nodes ≡ closed_below (drop depth levels) level → nodes ≡ closed_level (drop depth all)
+level_closed depth all levels level nodes e h n =
+    n
+    ∙ sym (closed_level_push (drop depth levels) level)
+    ∙ ap closed_level (sym (drop-append-le depth levels (level ∷ []) h))
+    ∙ ap (λ ls. closed_level (drop depth ls)) (sym e)
+
+-- a node more stands behind the nodes of its level, in the levels up to it
+pub node_step : (level : ℕ) (c : Cell) (levels : List (List Cell))
+    → with_node level c levels ≡ take level levels ++ (closed_level (drop level levels) ++ c ∷ []) ∷ []
+node_step zero c [] = refl
+node_step (suc level) c [] = refl
+node_step zero c (n ∷ []) = refl
+node_step zero c (n ∷ m ∷ ms) = refl
+node_step (suc level) c (n ∷ ns) = ap (λ ls. n ∷ ls) (node_step level c ns)
+
+filled_push : (given : List (ℕ × Option PlainSum)) (g : ℕ × Option PlainSum) (regs : List (Option PlainSum))
+    → filled_over (given ++ g ∷ []) regs ≡ filled_over given (slice_set regs g.0 g.1)
+filled_push [] g regs = refl
+filled_push (h ∷ hs) g regs = ap (λ rs. slice_set rs h.0 h.1) (filled_push hs g regs)
+
+-- the last register that is given is set
+pub filled_step : (all given : List (ℕ × Option PlainSum)) (g : ℕ × Option PlainSum) (regs set : List (Option PlainSum)) → all ≡ given ++ g ∷ []
+    → set ≡ slice_set regs g.0 g.1 → filled_over given set ≡ filled_over all regs
+filled_step all given g regs set e s = ap (filled_over given) s ∙ sym (filled_push given g regs) ∙ ap (λ gs. filled_over gs regs) (sym e)
+
+-- all registers that are given are set over the entry symbols
+pub filled_entry : (given : List (ℕ × Option PlainSum)) → filled_over given (entry_registers 16) ≡ filled given
+filled_entry [] = refl
+filled_entry (g ∷ gs) = ap (λ rs. slice_set rs g.0 g.1) (filled_entry gs)

@@ -1,0 +1,11 @@
+pub mod OrderLemmas
+pub mod CloseLemmas
+pub mod SoFarOrder
+pub mod SoFarLevels
+pub mod SoFarForest
+pub mod SoFarRegisters
+pub mod SoFarClosing
+pub mod SoFarLines
+pub mod SoFarParts
+pub mod SoFarSteps
+pub mod SoFarLemmas
