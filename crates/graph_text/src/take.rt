@@ -1,15 +1,17 @@
 //! One line of a text after another.
 ghost use Rattle.std.specs.Prelude.{◌≡◌, true, [], Some, IfOk};
 ghost use Rattle.term_text.specs.Reading.{Gives};
-ghost use Rattle.graph_lines.specs.Line.{IsLine};
 ghost use Rattle.graph_lines.specs.Text.{line_text};
-ghost use Rattle.graph_lines.specs.Mark.{mark_of, mark_for};
+ghost use Rattle.graph_lines.specs.Mark.{mark_of};
 ghost use Rattle.graph_text.specs.Text.{head};
-ghost use Rattle.open_graph.specs.Stands.{stands, may_stand, is_ended, is_begin};
+ghost use Rattle.open_graph.specs.Stands.{may_stand, is_ended, is_begin};
 ghost use Rattle.open_graph.specs.Open.{at_begin, behind_head};
 ghost use Rattle.graph_text.specs.Reading.{judged, taken, head_taken, line_taken, finished};
 ghost use Rattle.open_graph.specs.SoFar.{IsOpen};
-ghost use Rattle.graph_text.specs.SoFar.{Behind};
+ghost use Rattle.open_graph.specs.Order.{is_in_order};
+ghost use Rattle.open_graph.specs.Limits.{is_within};
+ghost use Rattle.open_graph.specs.Advance.{advanced};
+ghost use Rattle.graph_text.specs.SoFar.{IsNext, Behind};
 
 use graph_lines::{Line, mark_of, read_line};
 use hoare_graph::Graph;
@@ -46,26 +48,40 @@ fn may_stand(place: &Place, bytes: &[u8]) -> bool
 }
 
 /// A line that has its form and spelling: its order comes before its limits.
-#[tactic(auto, using(crate::proofs::TakeLemmas::behind), unfolding(crate::specs::Reading::judged))]
-fn judge(alloc: Global, reading: Reading, line: Line) -> Result<Reading, TextCause>
-    requires is_open { IsOpen reading }
-    requires is_line { IsLine line }
-    requires stands { stands reading.place (mark_for line) ≡ true }
-    ensures exact { Gives (λ r. r) result (judged reading line) }
-    ensures found { IfOk result (Behind reading (line_text line)) }
+#[tactic(auto, unfolding(crate::specs::Reading::judged))]
+fn judge(reading: &Reading, line: &Line) -> Result<(), TextCause>
+    ensures exact { Gives (λ _. advanced reading.now line.now) result (judged reading.now line.now) }
+    ensures found { IfOk result (λ _. (is_in_order reading.now line.now ≡ true) × (is_within reading.now.place line.now ≡ true)) }
 {
-    if !reading.is_in_order(&line) {
+    if !reading.is_in_order(line) {
         return Err(TextCause::OutOfOrder);
     }
-    if !reading.place.is_within(&line) {
+    if !reading.place.is_within(line) {
         return Err(TextCause::OverLimit);
     }
-    let next = reading.advance(alloc, line)?;
-    Ok(next)
+    Ok(())
+}
+
+/// The line that comes next, behind the head.
+#[tactic(auto, using(crate::proofs::TakeLemmas::mark_stands), unfolding(crate::specs::Reading::taken))]
+fn next_line(
+    alloc: Global,
+    reading: &Reading,
+    bytes: &[u8],
+    buffer: &mut Vec<u8>,
+) -> Result<Line, TextCause>
+    ensures exact { Gives (λ l. advanced reading.now l) result (taken reading.now bytes.now) }
+    ensures found { IfOk result (IsNext reading.now bytes.now) }
+{
+    if !may_stand(&reading.place, bytes) {
+        return Err(TextCause::BadLine);
+    }
+    let line = read_line(alloc, bytes, buffer)?;
+    judge(reading, &line)?;
+    Ok(line)
 }
 
 /// A line behind the head.
-#[tactic(auto, using(crate::proofs::TakeLemmas::mark_stands), unfolding(crate::specs::Reading::taken))]
 fn take_behind(
     alloc: Global,
     reading: Reading,
@@ -76,11 +92,9 @@ fn take_behind(
     ensures exact { Gives (λ r. r) result (taken reading bytes.now) }
     ensures found { IfOk result (Behind reading bytes.now) }
 {
-    if !may_stand(&reading.place, bytes) {
-        return Err(TextCause::BadLine);
-    }
-    let line = read_line(alloc, bytes, buffer)?;
-    judge(alloc, reading, line)
+    let line = next_line(alloc, &reading, bytes, buffer)?;
+    let next = reading.advance(alloc, line)?;
+    Ok(next)
 }
 
 /// What the lines say with one more, which has at most 32,768 bytes.
@@ -107,9 +121,9 @@ pub(crate) fn take_line(
 
 /// What stands behind the last line feed: nothing, where the last line was read.
 #[tactic(auto, unfolding(crate::specs::Reading::finished))]
-pub(crate) fn finish(reading: Reading, bytes: &[u8]) -> Result<Graph, TextCause>
-    ensures exact { Gives (λ g. g) result (finished reading bytes.now) }
-    ensures found { IfOk result (λ g. (g ≡ record { functions = reading.functions }) × ((is_ended reading.place ≡ true) × (bytes.now ≡ []))) }
+fn judge_end(reading: &Reading, bytes: &[u8]) -> Result<(), TextCause>
+    ensures exact { Gives (λ _. record { functions = reading.now.functions }) result (finished reading.now bytes.now) }
+    ensures found { IfOk result (λ _. (is_ended reading.now.place ≡ true) × (bytes.now ≡ [])) }
 {
     if bytes.len() > MOST_BYTES {
         return Err(TextCause::OverLimit);
@@ -117,6 +131,15 @@ pub(crate) fn finish(reading: Reading, bytes: &[u8]) -> Result<Graph, TextCause>
     if !reading.place.is_ended() || !bytes.is_empty() {
         return Err(TextCause::Unended);
     }
+    Ok(())
+}
+
+/// The graph of the lines, where nothing stands behind the last one.
+pub(crate) fn finish(reading: Reading, bytes: &[u8]) -> Result<Graph, TextCause>
+    ensures exact { Gives (λ g. g) result (finished reading bytes.now) }
+    ensures found { IfOk result (λ g. (g ≡ record { functions = reading.functions }) × ((is_ended reading.place ≡ true) × (bytes.now ≡ []))) }
+{
+    judge_end(&reading, bytes)?;
     Ok(Graph {
         functions: reading.functions,
     })
