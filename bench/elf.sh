@@ -7,10 +7,7 @@
 set -eu
 top=$(cd "$(dirname "$0")/.." && pwd)
 . "$top/tools/common.sh"
-need python3
-use_driver elf_bench
-use_folder
-PYTHONDONTWRITEBYTECODE=1 PYTHONPATH=$top/bench python3 - "$driver" "$work" "${1:-64}" <<'PY'
+run_timed elf_bench "${1:-64}" <<'PY'
 import os, struct, subprocess, sys, time
 from timing import timed
 

@@ -7,10 +7,7 @@
 set -eu
 top=$(cd "$(dirname "$0")/.." && pwd)
 . "$top/tools/common.sh"
-need python3
-use_driver text_bench
-use_folder
-PYTHONDONTWRITEBYTECODE=1 PYTHONPATH=$top/bench python3 - "$driver" "$work" "${1:-8}" <<'PY'
+run_timed text_bench "${1:-8}" <<'PY'
 import os, sys
 from timing import timed
 

@@ -19,6 +19,16 @@ use_folder() {
     trap 'rm -rf "$work"' EXIT
 }
 
+# Runs the Python script on standard input, which may import bench/timing.py, with the proved program of a crate, an empty
+# folder and the words behind.
+run_timed() {
+    need python3
+    use_driver "$1"
+    use_folder
+    shift
+    PYTHONDONTWRITEBYTECODE=1 PYTHONPATH=$top/bench python3 - "$driver" "$work" "$@"
+}
+
 # Sets `file` to the executable given, or to a statically linked C program that is compiled in the folder.
 use_executable() {
     file=$1

@@ -1,16 +1,34 @@
-ghost use Rattle.std.specs.Prelude.{◌<◌, length};
+ghost use Rattle.std.specs.Prelude.{ℕ, ◌≡◌, ◌<◌, ◌≤◌, IfSome, drop, length};
+ghost use Rattle.x86_meaning.specs.Fits.{InForm};
+ghost use Rattle.x86_decode.specs.Reading.{first_instr};
+ghost use Rattle.decode_bench.specs.Sweep.{Sweeps};
 
 use std::alloc::{AllocError, Global};
 use x86_decode::decode;
+use x86_meaning::Instr;
 
-// What going from instruction to instruction meets.
+/// What going from instruction to instruction meets.
 #[derive(Clone, Copy)]
 pub struct Count {
+    /// The instructions.
     pub instructions: u64,
+    /// The bytes at which no instruction begins, each passed alone.
     pub others: u64,
 }
 
-pub(crate) fn count_instructions(code: &[u8]) -> Count {
+// The instruction that begins at an offset, which is its address too.
+fn instruction_at(code: &[u8], at: usize) -> Option<Instr>
+    requires { at < length code.now }
+    ensures value { result ≡ first_instr at (drop at code.now) }
+    ensures in_form { IfSome result InForm }
+{
+    decode(&code[at..], at as u64)
+}
+
+/// What going from the first byte on meets until the code is at its end.
+pub(crate) fn count_instructions(code: &[u8]) -> Count
+    ensures { (last : ℕ) × (length code.now ≤ last) × Sweeps code.now last result.instructions result.others }
+{
     let mut count = Count {
         instructions: 0,
         others: 0,
@@ -18,7 +36,7 @@ pub(crate) fn count_instructions(code: &[u8]) -> Count {
     let mut next = 0;
     for at in 0..code.len() {
         if at == next {
-            if let Some(i) = decode(&code[at..], at as u64) {
+            if let Some(i) = instruction_at(code, at) {
                 count.instructions += 1;
                 next = at + i.len as usize;
             } else {
@@ -34,7 +52,7 @@ pub(crate) fn count_instructions(code: &[u8]) -> Count {
 pub(crate) fn line_of(alloc: Global, code: &[u8], at: usize) -> Result<String, AllocError>
     requires { at < length code.now }
 {
-    match decode(&code[at..], at as u64) {
+    match instruction_at(code, at) {
         Some(i) => {
             let len = i.len;
             let op = i.op;

@@ -1,3 +1,10 @@
+ghost use Rattle.std.specs.Prelude.{◌≡◌, IfSome, None, Some, bit_and};
+ghost use Rattle.x86_meaning.specs.Memory.{loaded};
+ghost use Rattle.x86_meaning.specs.Next.{next};
+ghost use Rattle.x86_meaning.specs.State.{state_of};
+ghost use Rattle.x86_decode.specs.Reading.{first_instr};
+ghost use Rattle.step_replay.specs.Rows.{flags_digit, first_registers};
+
 use bits_core::Flags;
 use std::alloc::Global;
 use std::str::SplitWhitespace;
@@ -36,8 +43,11 @@ fn read_state(words: &mut SplitWhitespace<'_>) -> Option<Recorded> {
     Some(Recorded { regs, cell, flags })
 }
 
-// Takes one step by the instruction that begins the bytes.
-fn step(machine: &mut Machine, code: &[u8], choice: u8) -> Outcome {
+// Takes one step by the instruction that begins the bytes; where none does, the machine stands still.
+fn step(machine: &mut Machine, code: &[u8], choice: u8) -> Outcome
+    ensures moved { result ≡ Outcome.Moved → IfSome (first_instr (state_of machine.old).rip code.now) (λ i. next (state_of machine.old) i choice ≡ Some (state_of machine.new)) }
+    ensures none { first_instr (state_of machine.old).rip code.now ≡ None → result ≡ Outcome.Stopped }
+{
     match decode(code, machine.rip()) {
         Some(i) => machine.advance(&i, choice),
         None => Outcome::Stopped,
@@ -77,19 +87,28 @@ fn machine_of(alloc: Global, before: &Recorded) -> Option<Machine> {
     Some(machine)
 }
 
-fn digit_of(flags: Flags) -> u8 {
+fn digit_of(flags: Flags) -> u8
+    ensures { result ≡ flags_digit flags }
+{
     let low = u8::from(flags.carry) + 2 * u8::from(flags.zero);
     low + 4 * u8::from(flags.sign) + 8 * u8::from(flags.over)
 }
 
 // What the machine has, with the flags of the mask alone.
-fn shown(machine: &Machine, mask: u8) -> Recorded {
-    let mut regs = [0; 6];
-    for (r, value) in regs.iter_mut().enumerate() {
-        *value = machine.reg(r as u8);
-    }
+fn shown(machine: &Machine, mask: u8) -> Recorded
+    ensures regs { result.regs ≡ first_registers (state_of machine.now) }
+    ensures cell { result.cell ≡ loaded (state_of machine.now).memory 8 CELL }
+    ensures flags { result.flags ≡ bit_and (flags_digit (state_of machine.now).flags) mask }
+{
     Recorded {
-        regs,
+        regs: [
+            machine.reg(0),
+            machine.reg(1),
+            machine.reg(2),
+            machine.reg(3),
+            machine.reg(4),
+            machine.reg(5),
+        ],
         cell: machine.load(CELL, 8),
         flags: digit_of(machine.flags()) & mask,
     }

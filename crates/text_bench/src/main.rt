@@ -3,6 +3,9 @@
 //! refused, with status 1. `bench/text.sh` times it.
 #![tactic(auto)]
 
+ghost use Rattle.std.specs.Prelude.{◌≡◌, ◌-◌, ◌^◌, IfOk, length, min};
+ghost use Rattle.graph_text.specs.Text.{graph_text};
+
 #[cfg(test)]
 mod graph_tests;
 #[cfg(test)]
@@ -19,11 +22,15 @@ use sym_terms::NoMemory;
 /// The bytes of the first line and of the last one, with their line feeds.
 const FIRST_AND_LAST: usize = 19;
 
-/// How many bytes the first line, each function written alone, and the last line have together.
-fn length_in_pieces(alloc: Global, graph: &Graph) -> Result<usize, NoMemory> {
+/// How many bytes the first line, each function written alone, and the last line have together: as many as the text of
+/// the graph has, or 2^64 - 1 where those are more.
+fn length_in_pieces(alloc: Global, graph: &Graph) -> Result<usize, NoMemory>
+    ensures { IfOk result (λ count. count ≡ min (length (graph_text graph.now)) (2 ^ 64 - 1)) }
+{
     let mut length = FIRST_AND_LAST;
     for function in graph.functions.as_slice() {
-        length = length.saturating_add(write_function(alloc, function)?.len());
+        let text = write_function(alloc, function)?;
+        length = length.saturating_add(text.as_slice().len());
     }
     Ok(length)
 }
