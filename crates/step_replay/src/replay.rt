@@ -1,6 +1,6 @@
-ghost use Rattle.std.specs.Prelude.{◌≡◌, IfSome, None, Some, bit_and};
+ghost use Rattle.std.specs.Prelude.{◌≡◌, ◌≢◌, IfSome, MatchOption, Some, bit_and};
 ghost use Rattle.x86_meaning.specs.Memory.{loaded};
-ghost use Rattle.x86_meaning.specs.Next.{next};
+ghost use Rattle.x86_meaning.specs.Next.{next, outcome_of};
 ghost use Rattle.x86_meaning.specs.State.{state_of};
 ghost use Rattle.x86_decode.specs.Reading.{first_instr};
 ghost use Rattle.step_replay.specs.Rows.{flags_digit, first_registers};
@@ -46,7 +46,8 @@ fn read_state(words: &mut SplitWhitespace<'_>) -> Option<Recorded> {
 // Takes one step by the instruction that begins the bytes; where none does, the machine stands still.
 fn step(machine: &mut Machine, code: &[u8], choice: u8) -> Outcome
     ensures moved { result ≡ Outcome.Moved → IfSome (first_instr (state_of machine.old).rip code.now) (λ i. next (state_of machine.old) i choice ≡ Some (state_of machine.new)) }
-    ensures none { first_instr (state_of machine.old).rip code.now ≡ None → result ≡ Outcome.Stopped }
+    ensures unchanged { result ≢ Outcome.Moved → state_of machine.new ≡ state_of machine.old }
+    ensures outcome { result ≢ Outcome.NoMemory → MatchOption (first_instr (state_of machine.old).rip code.now) (result ≡ Outcome.Stopped) (λ i. result ≡ outcome_of (state_of machine.old) i) }
 {
     match decode(code, machine.rip()) {
         Some(i) => machine.advance(&i, choice),
