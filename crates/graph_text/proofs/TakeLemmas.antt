@@ -2,24 +2,23 @@
 use Rattle.std.proofs.Common.{◌≡◌, ℕ, true, false, List, [], ◌∷◌, ◌++◌, append_assoc, refl, sym, ap, ◌∙◌, subst}
 use Rattle.std.proofs.lemmas.List.{append-nil}
 use Rattle.predicates.specs.declared.site.Kind.{Kind}
-use Rattle.hoare_graph.specs.declared.graph.Site.{Site}
 use Rattle.graph_lines.specs.declared.line.Line.{Line}
 use Rattle.graph_lines.specs.declared.line.Line.TheVariants as line
 use Rattle.graph_lines.specs.declared.mark.Mark.{Mark}
 use Rattle.graph_lines.specs.Text.{line_text}
 use Rattle.graph_lines.specs.Mark.{mark_of, mark_for}
-use Rattle.open_graph.specs.declared.reading.OpenVertex.{OpenVertex}
 use Rattle.open_graph.specs.declared.reading.Place.{Place}
 use Rattle.open_graph.specs.declared.reading.Place.TheVariants as place
 use Rattle.open_graph.specs.declared.reading.Reading.{Reading}
 use Rattle.graph_text.specs.Text.{head, ended, lines_text}
 use Rattle.open_graph.specs.Open.{behind_head}
 use Rattle.open_graph.specs.Stands.{stands, may_stand, is_begin}
-use Rattle.open_graph.specs.Advance.{place_after, advanced, at_site, at_vertex, in_site, in_vertex}
+use Rattle.open_graph.specs.Advance.{place_after, advanced, at_site, at_vertex, with_line}
 use Rattle.graph_text.specs.Reading.{head_taken, taken, taken_at}
 use Rattle.open_graph.specs.SoFar.{IsOpen, lines_of}
 use Rattle.graph_text.specs.SoFar.{text_at, read_text, Behind}
 use Rattle.graph_lines.proofs.MarkLemmas.{mark_reads}
+use Rattle.graph_text.proofs.WriteLemmas.{lines_append}
 
 -- ---- behind the head the first line doesn't come again
 
@@ -31,28 +30,17 @@ vertex_begins : (p : Place) → is_begin p ≡ false → is_begin (at_vertex p) 
 vertex_begins place.Begin e = e
 vertex_begins _ e = refl
 
-in_site_begins : (change : Site → Site) (p : Place) → is_begin p ≡ false → is_begin (in_site change p) ≡ false
-in_site_begins change place.Begin e = e
-in_site_begins change _ e = refl
-
-in_vertex_begins : (change : OpenVertex → OpenVertex) (p : Place) → is_begin p ≡ false → is_begin (in_vertex change p) ≡ false
-in_vertex_begins change place.Begin e = e
-in_vertex_begins change _ e = refl
+with_line_begins : (l : Line) (p : Place) → is_begin p ≡ false → is_begin (with_line l p) ≡ false
+with_line_begins l place.Begin e = e
+with_line_begins l _ e = refl
 
 after_begins : (l : Line) (p : Place) → is_begin p ≡ false → is_begin (place_after l p) ≡ false
 after_begins (line.Function entry below above) p e = refl
 after_begins (line.Refused entry) p e = refl
 after_begins (line.Site addr kind) p e = site_begins addr kind p e
-after_begins (line.Pair a b) p e = in_site_begins _ p e
-after_begins (line.Fork a b) p e = in_site_begins _ p e
-after_begins (line.Keep a) p e = in_site_begins _ p e
 after_begins (line.Vertex n) p e = vertex_begins p e
-after_begins (line.Registers given) p e = in_vertex_begins _ p e
-after_begins (line.Flags fact) p e = in_vertex_begins _ p e
-after_begins (line.Bound b) p e = in_vertex_begins _ p e
-after_begins (line.Node level c) p e = in_vertex_begins _ p e
-after_begins (line.Edges out) p e = in_vertex_begins _ p e
 after_begins line.End p e = refl
+after_begins l p e = with_line_begins l p e
 
 stands_begins : (p : Place) (m : Mark) → stands p m ≡ true → is_begin p ≡ false
 stands_begins place.Begin m e = absurd (cc)
@@ -65,8 +53,7 @@ text_behind _ r e = refl
 -- ---- the text that was read
 
 lines_push : (ls : List Line) (l : Line) → lines_text (ls ++ l ∷ []) ≡ lines_text ls ++ ended (line_text l)
-lines_push [] l = append-nil (ended (line_text l))
-lines_push (m ∷ ms) l = ap (λ t. ended (line_text m) ++ t) (lines_push ms l) ∙ sym (append_assoc (ended (line_text m)) (lines_text ms) (ended (line_text l)))
+lines_push ls l = lines_append ls (l ∷ []) ∙ ap (λ t. lines_text ls ++ t) (append-nil (ended (line_text l)))
 
 -- behind a line that may stand, and that is the last of the lines that were read
 pub behind : (r s : Reading) (l : Line) → stands r.place (mark_for l) ≡ true → s ≡ advanced r l → IsOpen s → lines_of s ≡ lines_of r ++ l ∷ []

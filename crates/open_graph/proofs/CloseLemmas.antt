@@ -4,7 +4,7 @@ use Rattle.std.proofs.lemmas.List.{drop-append-le, take-append-le}
 use Rattle.sym_terms.specs.Plain.{PlainSum}
 use Rattle.mem_forest.specs.Plain.{Cells, Cell, cells}
 use Rattle.open_graph.specs.Open.{over, nested, filled}
-use Rattle.open_graph.specs.Close.{closed_below, closed_level, filled_over}
+use Rattle.open_graph.specs.Close.{closed_below, closed_level}
 use Rattle.open_graph.specs.Advance.{with_node}
 use Rattle.predicates.specs.Entry.{entry_registers}
 
@@ -61,6 +61,11 @@ node_step (suc level) c [] = refl
 node_step zero c (n ∷ []) = refl
 node_step zero c (n ∷ m ∷ ms) = refl
 node_step (suc level) c (n ∷ ns) = ap (λ ls. n ∷ ls) (node_step level c ns)
+
+-- registers with those that are given, the last one first
+abbrev pub filled_over : List (ℕ × Option PlainSum) → List (Option PlainSum) → List (Option PlainSum)
+filled_over [] regs = regs
+filled_over (given ∷ more) regs = slice_set (filled_over more regs) given.0 given.1
 
 filled_push : (given : List (ℕ × Option PlainSum)) (g : ℕ × Option PlainSum) (regs : List (Option PlainSum))
     → filled_over (given ++ g ∷ []) regs ≡ filled_over given (slice_set regs g.0 g.1)

@@ -40,11 +40,6 @@ at_vertex (place.Site f s) = place.Vertex f s empty_vertex
 at_vertex (place.Vertex f s v) = place.Vertex f (closed_site s v) empty_vertex
 at_vertex p = p
 
--- one assumption more at a site
-abbrev pub in_site : (Site → Site) → Place → Place
-in_site change (place.Site f s) = place.Site f (change s)
-in_site change p = p
-
 abbrev pub with_pair : Region × Region → Site → Site
 with_pair pair s = record { addr = s.addr; kind = s.kind; seps = s.seps ++ pair ∷ []; fork = s.fork; keeps = s.keeps; vertices = s.vertices }
 
@@ -54,44 +49,12 @@ with_fork pair s = record { addr = s.addr; kind = s.kind; seps = s.seps; fork = 
 abbrev pub with_keep : Region → Site → Site
 with_keep r s = record { addr = s.addr; kind = s.kind; seps = s.seps; fork = s.fork; keeps = s.keeps ++ r ∷ []; vertices = s.vertices }
 
--- one fact more at a vertex
-abbrev pub in_vertex : (OpenVertex → OpenVertex) → Place → Place
-in_vertex change (place.Vertex f s v) = place.Vertex f s (change v)
-in_vertex change p = p
-
 -- the levels with a node more, behind the nodes of its level; the levels below it are closed
 abbrev pub with_node : ℕ → Cell → List (List Cell) → List (List Cell)
 with_node level c [] = (c ∷ []) ∷ []
 with_node zero c (nodes ∷ []) = (nodes ++ c ∷ []) ∷ []
 with_node zero c (nodes ∷ next ∷ more) = (over nodes (nested (next ∷ more)) ++ c ∷ []) ∷ []
 with_node (suc level) c (nodes ∷ levels) = nodes ∷ with_node level c levels
-
--- what a line changes of its place
-abbrev pub place_after : Line → Place → Place
-place_after (line.Function entry below above) p = place.Function (new_function entry below above)
-place_after (line.Refused entry) p = place.Between
-place_after (line.Site addr kind) p = at_site addr kind p
-place_after (line.Pair a b) p = in_site (with_pair (a, b)) p
-place_after (line.Fork a b) p = in_site (with_fork (a, b)) p
-place_after (line.Keep a) p = in_site (with_keep a) p
-place_after (line.Vertex n) p = at_vertex p
-place_after (line.Registers given) p = in_vertex (λ v. record { regs = Some (filled given); flags = v.flags; bounds = v.bounds; levels = v.levels; out = v.out }) p
-place_after (line.Flags fact) p = in_vertex (λ v. record { regs = v.regs; flags = Some fact; bounds = v.bounds; levels = v.levels; out = v.out }) p
-place_after (line.Bound b) p = in_vertex (λ v. record { regs = v.regs; flags = v.flags; bounds = v.bounds ++ b ∷ []; levels = v.levels; out = v.out }) p
-place_after (line.Node level c) p = in_vertex (λ v. record { regs = v.regs; flags = v.flags; bounds = v.bounds; levels = with_node level c v.levels; out = v.out }) p
-place_after (line.Edges out) p = in_vertex (λ v. record { regs = v.regs; flags = v.flags; bounds = v.bounds; levels = v.levels; out = out }) p
-place_after line.End p = place.End
-
--- the functions that are whole behind a line
-abbrev pub functions_after : Line → Reading → List Function
-functions_after (line.Function entry below above) r = r.functions ++ closed_at r.place
-functions_after (line.Refused entry) r = (r.functions ++ closed_at r.place) ++ refused_function entry ∷ []
-functions_after line.End r = r.functions ++ closed_at r.place
-functions_after _ r = r.functions
-
--- what the lines say with one line more
-abbrev pub advanced : Reading → Line → Reading
-advanced r l = record { functions = functions_after l r; place = place_after l r.place }
 
 -- what a line of a site, and one of a vertex, adds to it; the other lines add nothing
 abbrev pub site_after : Line → Site → Site
@@ -113,3 +76,23 @@ abbrev pub with_line : Line → Place → Place
 with_line l (place.Site f s) = place.Site f (site_after l s)
 with_line l (place.Vertex f s v) = place.Vertex f s (vertex_after l v)
 with_line l p = p
+
+-- what a line changes of its place
+abbrev pub place_after : Line → Place → Place
+place_after (line.Function entry below above) p = place.Function (new_function entry below above)
+place_after (line.Refused entry) p = place.Between
+place_after (line.Site addr kind) p = at_site addr kind p
+place_after (line.Vertex n) p = at_vertex p
+place_after line.End p = place.End
+place_after l p = with_line l p
+
+-- the functions that are whole behind a line
+abbrev pub functions_after : Line → Reading → List Function
+functions_after (line.Function entry below above) r = r.functions ++ closed_at r.place
+functions_after (line.Refused entry) r = (r.functions ++ closed_at r.place) ++ refused_function entry ∷ []
+functions_after line.End r = r.functions ++ closed_at r.place
+functions_after _ r = r.functions
+
+-- what the lines say with one line more
+abbrev pub advanced : Reading → Line → Reading
+advanced r l = record { functions = functions_after l r; place = place_after l r.place }

@@ -1,6 +1,5 @@
 -- Which open vertices can be closed, and levels that are closed into the one above.
-use Rattle.std.specs.Prelude.{◌≡◌, ℕ, Option, IsTrue, List, [], ◌∷◌, length, slice_set, ⊤}
-use Rattle.sym_terms.specs.Plain.{PlainSum}
+use Rattle.std.specs.Prelude.{◌≡◌, IsTrue, List, [], ◌∷◌, length, ⊤}
 use Rattle.mem_forest.specs.Plain.{Cell, cells}
 use Rattle.mem_forest.specs.Shape.{IsForest}
 use Rattle.predicates.specs.Bounds.{are_bounds}
@@ -24,11 +23,6 @@ CanClose _ = ⊤
 abbrev pub closed_below : List (List Cell) → List Cell → List Cell
 closed_below [] nodes = nodes
 closed_below (level ∷ levels) nodes = over level (cells (closed_below levels nodes))
-
--- registers with those that are given, the last one first
-abbrev pub filled_over : List (ℕ × Option PlainSum) → List (Option PlainSum) → List (Option PlainSum)
-filled_over [] regs = regs
-filled_over (given ∷ more) regs = slice_set (filled_over more regs) given.0 given.1
 
 -- levels closed into the first of them
 abbrev pub closed_level : List (List Cell) → List Cell

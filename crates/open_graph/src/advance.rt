@@ -271,6 +271,7 @@ impl Reading {
             }
         }
     }
+
     /// What the lines say with one line more, which can stand here, in order and within the limits; `NoMemory` where
     /// memory runs out.
     #[tactic(auto, using(crate::proofs::SoFarLemmas::can_close, crate::proofs::SoFarLemmas::open_advanced, crate::proofs::SoFarLemmas::lines_advanced))]
@@ -284,7 +285,6 @@ impl Reading {
         // It is well formed as far as it goes, and the line stands behind those of before.
         ensures kept { IfOk result (λ r. IsOpen r × (lines_of r ≡ lines_of self ++ line ∷ [])) }
     {
-        let next = self.advanced(alloc, line)?;
-        Ok(next)
+        self.advanced(alloc, line)
     }
 }

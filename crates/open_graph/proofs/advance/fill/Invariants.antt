@@ -1,6 +1,6 @@
 use Rattle.std.proofs.Common.{◌≡◌, length}
 use Rattle.predicates.specs.Entry.{entry_registers}
-use Rattle.open_graph.specs.Close.{filled_over}
+use Rattle.open_graph.proofs.CloseLemmas.{filled_over}
 use Rattle.open_graph.proofs.advance.fill.Given as goal
 
 abbrev pub invariant-loop-register : goal.invariant-loop-register
