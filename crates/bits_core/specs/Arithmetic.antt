@@ -57,3 +57,7 @@ alu_of Sbb w a b carry = difference_of w a b carry
 alu_of And w a b carry = logical_of w (bit_and a b)
 alu_of Sub w a b carry = difference_of w a b false
 alu_of Xor w a b carry = logical_of w (bit_xor a b)
+
+-- the flags of a subtraction, as cmp and sub set them
+abbrev pub compared : Width → ℕ → ℕ → Flags
+compared w a b = (alu_of Sub w a b false).1

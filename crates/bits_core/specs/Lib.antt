@@ -5,4 +5,3 @@ pub mod Arithmetic
 pub mod Condition
 pub mod Shifts
 pub mod Wide
-pub mod Laws

@@ -3,17 +3,19 @@
 use Rattle.std.specs.Prelude.{ℕ, ◌+◌, ◌-◌, ◌*◌, ◌/◌, ◌%◌, ◌^◌, true}
 use Rattle.std.specs.Int.{int_shr}
 use Rattle.bits_core.specs.declared.width.Width.{Width}
-use Rattle.bits_core.specs.declared.width.Width.TheVariants.{W64}
+use Rattle.bits_core.specs.declared.width.Width.TheVariants.{W8, W16, W32, W64}
 use Rattle.bits_core.specs.declared.operations.Shift.{Shift}
 use Rattle.bits_core.specs.declared.operations.Shift.TheVariants.{Rol, Ror, Shl, Shr, Sar}
 use Rattle.bits_core.specs.Width.{bits_of}
 use Rattle.bits_core.specs.LowBits.{cut_of}
 use Rattle.bits_core.specs.Integers.{integer_of, residue_of}
 
--- how many counts a width tells apart: the low 6 bits of the count at 64 bits, else the low 5
-abbrev pub counts_of : Width → ℕ
-counts_of W64 = 64
-counts_of _ = 32
+-- a count is taken modulo this: its low 6 bits at 64 bits, else its low 5
+abbrev pub count_modulus : Width → ℕ
+count_modulus W8 = 32
+count_modulus W16 = 32
+count_modulus W32 = 32
+count_modulus W64 = 64
 
 -- a number of the width turned left: what a shift pushes out at the top comes in at the bottom
 abbrev pub turned_left : Width → ℕ → ℕ → ℕ
@@ -33,4 +35,4 @@ shifted_by Sar w a by = residue_of w (int_shr (integer_of w true a) by)
 
 -- the same by the count as the instruction has it
 abbrev pub shift_of : Shift → Width → ℕ → ℕ → ℕ
-shift_of op w a count = shifted_by op w a (count % counts_of w)
+shift_of op w a count = shifted_by op w a (count % count_modulus w)

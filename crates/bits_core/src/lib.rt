@@ -6,22 +6,16 @@ mod arithmetic;
 mod condition;
 mod flags;
 mod integers;
-mod laws;
 mod low_bits;
 mod operations;
-#[cfg(test)]
-mod recorded;
 mod shifts;
-#[cfg(test)]
-mod tests;
 mod wide;
 mod width;
 
 pub use arithmetic::alu;
 pub use condition::cond;
 pub use flags::Flags;
-pub use laws::{arithmetic_laws, comparison_laws};
-pub use low_bits::{cut, low_bits_laws, sext};
+pub use low_bits::{cut, sext};
 pub use operations::{Alu, Shift};
 pub use shifts::shift;
 pub use wide::{div_wide, mul_wide};

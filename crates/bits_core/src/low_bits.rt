@@ -1,5 +1,5 @@
 ghost use Rattle.std.specs.Prelude.{◌≡◌};
-ghost use Rattle.bits_core.specs.LowBits.{cut_of, sext_of, CutLaws, SextLaws};
+ghost use Rattle.bits_core.specs.LowBits.{cut_of, sext_of};
 
 use crate::width::Width;
 
@@ -17,9 +17,3 @@ pub fn sext(w: Width, x: u64) -> u64
     let low = cut(w, x);
     if low < w.half() { low } else { low + !w.mask() }
 }
-
-/// The laws of `cut` and `sext`; the call does nothing.
-pub fn low_bits_laws()
-    ensures cut { CutLaws }
-    ensures sext { SextLaws }
-{}

@@ -1,6 +1,6 @@
 ghost use Rattle.std.specs.Prelude.{◌≡◌, ◌%◌, ◌^◌, ◌<◌, ◌≤◌};
 ghost use Rattle.bits_core.specs.Width.{bits_of};
-ghost use Rattle.bits_core.specs.Shifts.{counts_of, shift_of, turned_left};
+ghost use Rattle.bits_core.specs.Shifts.{count_modulus, shift_of, turned_left};
 
 use crate::integers::{halves, integer, residue};
 use crate::low_bits::cut;
@@ -25,7 +25,7 @@ pub fn shift(op: Shift, w: Width, a: u64, count: u8) -> u64
 
 // The count that the processor takes.
 fn masked(w: Width, count: u8) -> u32
-    ensures value { result ≡ count % counts_of w }
+    ensures value { result ≡ count % count_modulus w }
     ensures small { result < 64 }
 {
     match w {

@@ -1,13 +1,13 @@
 -- A sweep that goes on past one byte.
 use Rattle.std.proofs.Common.{◌≡◌, ℕ, ◌+◌, ◌<◌, ◌≤◌, List, length, drop, Some, None, sym, subst, arith}
-use Rattle.x86_meaning.specs.declared.instr.Instr.{Instr}
-use Rattle.x86_meaning.specs.Fits.{InForm}
+use Rattle.x86_instr.specs.declared.instr.Instr.{Instr}
+use Rattle.x86_instr.specs.Fits.{InForm}
 use Rattle.x86_decode.specs.Reading.{first_instr}
 use Rattle.decode_bench.specs.declared.listing.Count.{Count}
 use Rattle.decode_bench.specs.Sweep.{Sweeps}
 use Rattle.decode_bench.specs.Sweep.Sweeps.{by_instruction, by_byte}
 
--- it has come to the next offset, at or behind this one, and no more is counted than bytes were passed
+-- it has come to the next offset, at or after this one, and no more is counted than bytes were passed
 abbrev pub Swept : List ℕ → ℕ → ℕ → Count → Type 0
 Swept code at next count =
     (at ≤ next)
@@ -39,7 +39,7 @@ past_byte code at next count h same none swept =
 -- inside an instruction
 pub inside : (code : List ℕ) (at next : ℕ) (count : Count) → (at ≡ next → ⊥) → Swept code at next count → Swept code (at + 1) next count
 inside code at next count apart swept =
-    let behind : at ≤ next = swept.0 in
+    let later : at ≤ next = swept.0 in
     let few : count.instructions ≤ at = swept.2 in
     let others : count.others ≤ at = swept.3 in
     (omega arith, swept.1, omega arith, omega arith)

@@ -1,11 +1,11 @@
 ghost use Rattle.std.specs.Prelude.{ℕ, ◌≡◌, ◌<◌, ◌≤◌, IfSome, drop, length};
-ghost use Rattle.x86_meaning.specs.Fits.{InForm};
+ghost use Rattle.x86_instr.specs.Fits.{InForm};
 ghost use Rattle.x86_decode.specs.Reading.{first_instr};
 ghost use Rattle.decode_bench.specs.Sweep.{Sweeps};
 
 use std::alloc::{AllocError, Global};
 use x86_decode::decode;
-use x86_meaning::Instr;
+use x86_instr::Instr;
 
 /// What going from instruction to instruction meets.
 #[derive(Clone, Copy)]

@@ -1,25 +1,25 @@
--- An encoding that is read stands in front of the bytes, and one that stands there is read, whatever follows it.
+-- An encoding that is read begins the bytes, and one that stands there is read, whatever follows it.
 use Rattle.std.proofs.Common.{◌≡◌, ℕ, ◌+◌, ◌<◌, Bool, true, false, cond, ◌&&◌, not, eqb, List, ◌∷◌, ◌++◌, length, take, drop, Option, Some, None, refl, sym, ap, subst, ◌∙◌, append_assoc}
 use Rattle.std.specs.Prelude.{IfSome}
-use Rattle.std.specs.List.{AllByRecursion, prefix_len as front_len}
+use Rattle.std.specs.List.{AllByRecursion, prefix_len as count_while}
 use Rattle.std.proofs.lemmas.Bool.{and_parts, and_from, not-true, agree_below_at}
 use Rattle.std.proofs.lemmas.List.{take_at, drop_at, take-append-drop}
-use Rattle.x86_meaning.specs.declared.encoding.Row.{Row}
-use Rattle.x86_meaning.specs.declared.encoding.ModRm.{ModRm}
-use Rattle.x86_meaning.specs.Fields.{little, rex_bytes, opcode_bytes, modrm_part, is_memory}
-use Rattle.x86_meaning.specs.Table.{table}
-use Rattle.x86_meaning.specs.Rows.{is_at, wants, wants_rex, has_modrm, fits_operand}
-use Rattle.x86_meaning.specs.Prefixes.{is_prefix, allows}
-use Rattle.x86_meaning.specs.Sizes.{fits_imm}
-use Rattle.x86_meaning.specs.Spells.{Encoding, IsEncoding, IsModRmOf, width, imm_size, bytes_of}
-use Rattle.x86_decode.specs.Reading.{prefix_len, rex_at, opcode_at, digit_at, matches, row_at, little_at, modrm_for, Front, encoding, passes, size_at, fields_at, encoding_at}
+use Rattle.x86_spelling.specs.declared.encoding.Row.{Row}
+use Rattle.x86_spelling.specs.declared.encoding.ModRm.{ModRm}
+use Rattle.x86_spelling.specs.Fields.{little, rex_bytes, opcode_bytes, modrm_part, is_memory}
+use Rattle.x86_spelling.specs.Table.{table}
+use Rattle.x86_spelling.specs.Rows.{is_at, wants, wants_rex, has_modrm, fits_operand}
+use Rattle.x86_spelling.specs.Prefixes.{is_prefix, allows}
+use Rattle.x86_spelling.specs.Sizes.{fits_imm}
+use Rattle.x86_spelling.specs.Spells.{Encoding, IsEncoding, IsModRmOf, width, imm_size, bytes_of}
+use Rattle.x86_decode.specs.Reading.{prefix_len, rex_at, opcode_at, digit_at, matches, row_at, little_at, modrm_for, Header, encoding, passes, size_at, fields_at, encoding_at}
 use Rattle.x86_decode.proofs.ByteLemmas.{IsBytes, bytes_dropped, both_passed, test_passed, Takes, takes_both, little_takes, little_again}
 use Rattle.x86_decode.proofs.StageLemmas.{ModRmStands, modrm_for_takes, modrm_for_again, digit_again, opcode_takes, opcode_again, is_rex, rex_takes, rex_again_some, rex_again_none, prefixes_take, prefixes_again}
 use Rattle.x86_decode.proofs.RowLemmas.{find_takes, row_is_found, is_map, met, is_opcode, opcode_begins, digit_is_free}
 
--- the bytes behind the prefixes and REX
-abbrev pub behind_rex : Encoding → List ℕ
-behind_rex e = opcode_bytes e.row.escaped e.opcode ++ (modrm_part e.modrm ++ little (imm_size e) e.imm)
+-- the bytes after the prefixes and REX
+abbrev pub after_rex : Encoding → List ℕ
+after_rex e = opcode_bytes e.row.escaped e.opcode ++ (modrm_part e.modrm ++ little (imm_size e) e.imm)
 
 abbrev Read : Type 0
 Read = Encoding × List ℕ
@@ -52,38 +52,38 @@ map_is escaped row h = same_bool escaped row.escaped h
     same_bool false true h = cc
     same_bool false false h = refl
 
--- an encoding with this front was read from the bytes behind it
-pub record Stands (front : Front) (bytes : List ℕ) (x : Read) : Type 0 where
-  pub takes : Takes bytes (behind_rex x.0) x.1
+-- an encoding with this header was read from the bytes after it
+pub record Stands (header : Header) (bytes : List ℕ) (x : Read) : Type 0 where
+  pub takes : Takes bytes (after_rex x.0) x.1
   pub fits : IsEncoding x.0
-  pub prefixes_are : x.0.prefixes ≡ front.prefixes
-  pub rex_is : x.0.rex ≡ front.rex
+  pub prefixes_are : x.0.prefixes ≡ header.prefixes
+  pub rex_is : x.0.rex ≡ header.rex
 
-fields_take : (front : Front) (bytes : List ℕ) (x : Read) → IsBytes bytes → AllByRecursion (λ b. is_prefix b ≡ true) front.prefixes → IfSome front.rex (λ r. r < 16) → fields_at front bytes ≡ Some x → Stands front bytes x
+fields_take : (header : Header) (bytes : List ℕ) (x : Read) → IsBytes bytes → AllByRecursion (λ b. is_prefix b ≡ true) header.prefixes → IfSome header.rex (λ r. r < 16) → fields_at header bytes ≡ Some x → Stands header bytes x
 unfolding fields_at row_at
-fields_take front bytes x fits all low e =
+fields_take header bytes x fits all low e =
     let o = both_passed (opcode_at bytes) _ x e in
     let escaped = o.0.0 in
     let opcode = o.0.1 in
     let rest = o.0.2 in
-    let r = both_passed (row_at escaped opcode (digit_at rest) front.rex) _ x o.2 in
+    let r = both_passed (row_at escaped opcode (digit_at rest) header.rex) _ x o.2 in
     let row = r.0 in
     let m = both_passed (modrm_for (has_modrm row.form) rest) _ x r.2 in
-    let i = both_passed (little_at (size_at front row) m.0.1) _ x m.2 in
-    let e0 = encoding front row opcode m.0.0 i.0.0 in
+    let i = both_passed (little_at (size_at header row) m.0.1) _ x m.2 in
+    let e0 = encoding header row opcode m.0.0 i.0.0 in
     let made : Read = (e0, i.0.1) in
     let test = test_passed (passes e0) made x i.2 in
     let tests = passed e0 test.0 in
     let o_takes = opcode_takes bytes o.0 fits o.1 in
-    let found = find_takes (matches escaped opcode (digit_at rest) front.rex) table row r.1 in
-    let at = and_parts (is_at escaped opcode row) (wants row.digit (digit_at rest) && wants_rex row front.rex) found.1 in
-    let row_met = met escaped opcode (digit_at rest) front.rex row found.1 in
+    let found = find_takes (matches escaped opcode (digit_at rest) header.rex) table row r.1 in
+    let at = and_parts (is_at escaped opcode row) (wants row.digit (digit_at rest) && wants_rex row header.rex) found.1 in
+    let row_met = met escaped opcode (digit_at rest) header.rex row found.1 in
     let same_map = map_is escaped row row_met.map in
     let m_takes = modrm_for_takes (has_modrm row.form) rest m.0 o_takes.rest_fits m.1 in
-    let i_takes = little_takes (size_at front row) m.0.1 i.0 m_takes.0.rest_fits i.1 in
-    let tail = takes_both rest (modrm_part m.0.0) m.0.1 (little (size_at front row) i.0.0) i.0.1 m_takes.0 i_takes.0 in
-    let whole = takes_both bytes (opcode_bytes escaped opcode) rest (modrm_part m.0.0 ++ little (size_at front row) i.0.0) i.0.1 o_takes tail in
-    let taken : Takes bytes (behind_rex e0) i.0.1 = subst (λ (t : Bool). Takes bytes (opcode_bytes t opcode ++ (modrm_part m.0.0 ++ little (size_at front row) i.0.0)) i.0.1) (sym same_map) whole in
+    let i_takes = little_takes (size_at header row) m.0.1 i.0 m_takes.0.rest_fits i.1 in
+    let tail = takes_both rest (modrm_part m.0.0) m.0.1 (little (size_at header row) i.0.0) i.0.1 m_takes.0 i_takes.0 in
+    let whole = takes_both bytes (opcode_bytes escaped opcode) rest (modrm_part m.0.0 ++ little (size_at header row) i.0.0) i.0.1 o_takes tail in
+    let taken : Takes bytes (after_rex e0) i.0.1 = subst (λ (t : Bool). Takes bytes (opcode_bytes t opcode ++ (modrm_part m.0.0 ++ little (size_at header row) i.0.0)) i.0.1) (sym same_map) whole in
     let good : IsEncoding e0 = record {
       prefixes = all;
       allowed = tests.allowed;
@@ -96,23 +96,23 @@ fields_take front bytes x fits all low e =
       imm = i_takes.1;
       count = tests.count;
     } in
-    subst (λ (y : Read). Stands front bytes y) {x = made} test.1 (record { takes = taken; fits = good; prefixes_are = refl {a = front.prefixes}; rex_is = refl {a = front.rex} })
+    subst (λ (y : Read). Stands header bytes y) {x = made} test.1 (record { takes = taken; fits = good; prefixes_are = refl {a = header.prefixes}; rex_is = refl {a = header.rex} })
 
--- an encoding that is read stands in front
+-- an encoding that is read comes first
 pub encoding_takes : (bytes : List ℕ) (x : Read) → IsBytes bytes → encoding_at bytes ≡ Some x → Takes bytes (bytes_of x.0) x.1 × IsEncoding x.0
 unfolding encoding_at prefix_len
 encoding_takes bytes x fits e =
-    let n = front_len is_prefix bytes in
+    let n = count_while is_prefix bytes in
     let after = drop n bytes in
     let rex = rex_at after in
-    let front : Front = record { prefixes = take n bytes; rex = rex.0 } in
+    let header : Header = record { prefixes = take n bytes; rex = rex.0 } in
     let r = rex_takes after (bytes_dropped n bytes fits) in
-    let f = fields_take front rex.1 x r.0.rest_fits (prefixes_take bytes) r.1 e in
-    let tail = takes_both after (rex_bytes rex.0) rex.1 (behind_rex x.0) x.1 r.0 f.takes in
-    let first : Takes bytes front.prefixes after = record { parts = sym (take-append-drop n bytes); rest_fits = bytes_dropped n bytes fits } in
-    let whole = takes_both bytes front.prefixes after (rex_bytes rex.0 ++ behind_rex x.0) x.1 first tail in
-    let with_rex : Takes bytes (front.prefixes ++ (rex_bytes x.0.rex ++ behind_rex x.0)) x.1 = subst (λ (o : Option ℕ). Takes bytes (front.prefixes ++ (rex_bytes o ++ behind_rex x.0)) x.1) (sym f.rex_is) whole in
-    (subst (λ (ps : List ℕ). Takes bytes (ps ++ (rex_bytes x.0.rex ++ behind_rex x.0)) x.1) (sym f.prefixes_are) with_rex, f.fits)
+    let f = fields_take header rex.1 x r.0.rest_fits (prefixes_take bytes) r.1 e in
+    let tail = takes_both after (rex_bytes rex.0) rex.1 (after_rex x.0) x.1 r.0 f.takes in
+    let first : Takes bytes header.prefixes after = record { parts = sym (take-append-drop n bytes); rest_fits = bytes_dropped n bytes fits } in
+    let whole = takes_both bytes header.prefixes after (rex_bytes rex.0 ++ after_rex x.0) x.1 first tail in
+    let with_rex : Takes bytes (header.prefixes ++ (rex_bytes x.0.rex ++ after_rex x.0)) x.1 = subst (λ (o : Option ℕ). Takes bytes (header.prefixes ++ (rex_bytes o ++ after_rex x.0)) x.1) (sym f.rex_is) whole in
+    (subst (λ (ps : List ℕ). Takes bytes (ps ++ (rex_bytes x.0.rex ++ after_rex x.0)) x.1) (sym f.prefixes_are) with_rex, f.fits)
 
 -- the digit that is read is the row's, or the row has none
 digit_matches : (e : Encoding) (rest : List ℕ) → IsEncoding e → wants e.row.digit (digit_at (modrm_part e.modrm ++ rest)) ≡ true
@@ -135,12 +135,12 @@ is_opcode_parts b h =
     let q = and_parts (not (is_rex b)) (not (eqb b 0x0f)) p.1 in
     (not-true (is_prefix b) p.0, not-true (is_rex b) q.0, not-true (eqb b 0x0f) q.1)
 
--- what stands behind the prefixes and REX is read
-pub fields_again : (e : Encoding) (rest : List ℕ) → IsEncoding e → fields_at (record { prefixes = e.prefixes; rex = e.rex }) (behind_rex e ++ rest) ≡ Some (e, rest)
+-- what stands after the prefixes and REX is read
+pub fields_again : (e : Encoding) (rest : List ℕ) → IsEncoding e → fields_at (record { prefixes = e.prefixes; rex = e.rex }) (after_rex e ++ rest) ≡ Some (e, rest)
 unfolding fields_at row_at
 fields_again e rest fits =
     let imm = little (imm_size e) e.imm in
-    let regrouped : behind_rex e ++ rest ≡ opcode_bytes e.row.escaped e.opcode ++ (modrm_part e.modrm ++ (imm ++ rest)) =
+    let regrouped : after_rex e ++ rest ≡ opcode_bytes e.row.escaped e.opcode ++ (modrm_part e.modrm ++ (imm ++ rest)) =
     append_assoc (opcode_bytes e.row.escaped e.opcode) (modrm_part e.modrm ++ imm) rest ∙ ap (λ (t : List ℕ). opcode_bytes e.row.escaped e.opcode ++ t) (append_assoc (modrm_part e.modrm) imm rest) in
     let opcode = opcode_again e.row.escaped e.opcode (modrm_part e.modrm ++ (imm ++ rest)) (λ first. (is_opcode_parts e.opcode (opcode_is e fits first)).2) in
     let digit = digit_at (modrm_part e.modrm ++ (imm ++ rest)) in
@@ -168,20 +168,20 @@ rex_is_no_prefix r lt = agree_below_at (λ n. is_prefix (0x40 + n)) (λ n. false
 
 -- prefixes and REX before an opcode are read, and no more
 split_again : (ps : List ℕ) (rex : Option ℕ) (bytes : List ℕ) (c : ℕ) (cs : List ℕ) → AllByRecursion (λ b. is_prefix b ≡ true) ps → IfSome rex (λ r. r < 16) → Begins bytes c cs
-    → (front_len is_prefix (ps ++ (rex_bytes rex ++ bytes)) ≡ length ps) × (rex_at (rex_bytes rex ++ bytes) ≡ (rex, bytes))
+    → (count_while is_prefix (ps ++ (rex_bytes rex ++ bytes)) ≡ length ps) × (rex_at (rex_bytes rex ++ bytes) ≡ (rex, bytes))
 split_again ps None bytes c cs all low b =
     (rw b.is (prefixes_again ps c cs all b.no_prefix), rw b.is (rex_again_none c cs b.no_rex))
 split_again ps (Some r) bytes c cs all low b =
     (prefixes_again ps (0x40 + r) bytes all (rex_is_no_prefix r low), rex_again_some r bytes low)
 
--- an encoding that stands in front is read
+-- an encoding that comes first is read
 pub encoding_again : (e : Encoding) (rest : List ℕ) → IsEncoding e → encoding_at (bytes_of e ++ rest) ≡ Some (e, rest)
 unfolding encoding_at prefix_len
 encoding_again e rest fits =
-    let after = behind_rex e ++ rest in
+    let after = after_rex e ++ rest in
     let tail = modrm_part e.modrm ++ little (imm_size e) e.imm in
     let regrouped : bytes_of e ++ rest ≡ e.prefixes ++ (rex_bytes e.rex ++ after) =
-    append_assoc e.prefixes (rex_bytes e.rex ++ behind_rex e) rest ∙ ap (λ (t : List ℕ). e.prefixes ++ t) (append_assoc (rex_bytes e.rex) (behind_rex e) rest) in
+    append_assoc e.prefixes (rex_bytes e.rex ++ after_rex e) rest ∙ ap (λ (t : List ℕ). e.prefixes ++ t) (append_assoc (rex_bytes e.rex) (after_rex e) rest) in
     let start = opcode_starts e.row.escaped e.opcode (tail ++ rest) (opcode_is e fits) in
     let begins : Begins after start.0 start.1 = record { is = append_assoc (opcode_bytes e.row.escaped e.opcode) tail rest ∙ start.2.is; no_prefix = start.2.no_prefix; no_rex = start.2.no_rex } in
     let split = split_again e.prefixes e.rex after start.0 start.1 fits.prefixes fits.rex begins in

@@ -3,16 +3,16 @@ use Rattle.std.proofs.Common.{◌≡◌, ℕ, zero, suc, ◌+◌, ◌<◌, ◌�
 use Rattle.std.specs.Prelude.{Contains, is_none}
 use Rattle.std.specs.List.{list_all}
 use Rattle.std.proofs.lemmas.Bool.{eqb-true, and_parts, or_cases, cases_Bool, leb-true, ltb-true, cases_eq, not-true, both_ways, eq-eqb, agree_below_at}
-use Rattle.x86_meaning.specs.declared.encoding.Row.{Row}
-use Rattle.x86_meaning.specs.Table.{table}
-use Rattle.x86_meaning.specs.Rows.{is_at, wants, wants_rex, has_modrm}
-use Rattle.x86_meaning.specs.Fields.{rex_w, rex_b}
-use Rattle.x86_meaning.specs.Prefixes.{is_prefix}
+use Rattle.x86_spelling.specs.declared.encoding.Row.{Row}
+use Rattle.x86_spelling.specs.Table.{table}
+use Rattle.x86_spelling.specs.Rows.{is_at, wants, wants_rex, has_modrm}
+use Rattle.x86_spelling.specs.Fields.{rex_w, rex_b}
+use Rattle.x86_spelling.specs.Prefixes.{is_prefix}
 use Rattle.x86_decode.specs.Reading.{matches}
 use Rattle.x86_decode.proofs.ByteLemmas.{same_given}
 use Rattle.x86_decode.proofs.StageLemmas.{is_rex}
 
--- one is behind 0F and the other isn't
+-- one is after 0F and the other isn't
 abbrev maps_differ : Bool → Bool → Bool
 maps_differ true b = not b
 maps_differ false b = b
@@ -119,10 +119,10 @@ find_only escaped o d rex (x ∷ xs) r all (zero, lt, e) m =
     rw here (ap (λ (y : Row). Some y) e)
 find_only escaped o d rex (x ∷ xs) r all (suc k, lt, e) m =
     let tests = and_parts (list_all (are_apart x) xs) (all_apart xs) all in
-    let behind : Contains xs r = (k, omega arith, e) in
+    let later : Contains xs r = (k, omega arith, e) in
     elim (cases_Bool (matches escaped o d rex x)) [
-      | inl passes ↦ absurd (rows_exclude escaped o d rex x r (list_all_at (are_apart x) xs r tests.0 behind) (met escaped o d rex x passes) (met escaped o d rex r m))
-      | inr fails ↦ rw fails (find_only escaped o d rex xs r tests.1 behind m)
+      | inl passes ↦ absurd (rows_exclude escaped o d rex x r (list_all_at (are_apart x) xs r tests.0 later) (met escaped o d rex x passes) (met escaped o d rex r m))
+      | inr fails ↦ rw fails (find_only escaped o d rex xs r tests.1 later m)
     ]
 
 table_apart : all_apart table ≡ true
@@ -161,7 +161,7 @@ opcode_begins o r within first at =
     let map = and_parts (is_map false r) (leb r.opcode o && ltb o (r.opcode + r.span)) at in
     let range = and_parts (leb r.opcode o) (ltb o (r.opcode + r.span)) map.1 in
     elim (or_cases r.escaped (all_opcodes r.opcode r.span) (list_all_at has_opcodes table r table_opcodes within)) [
-      | inl behind ↦ absurd (both_ways r.escaped first behind)
+      | inl later ↦ absurd (both_ways r.escaped first later)
       | inr all ↦ opcodes_at r.opcode r.span o all (leb-true r.opcode o range.0) (ltb-true o (r.opcode + r.span) range.1)
     ]
 
@@ -205,15 +205,15 @@ before_is_none escaped o d rex r h =
     own_map true = refl
     own_map false = refl
 
--- such rows in front may be left out of the search
-pub find_behind : (escaped : Bool) (o d : ℕ) (rex : Option ℕ) (n : ℕ) (rows : List Row) → list_all (ends_before escaped (o / 16)) (take n rows) ≡ true → find (matches escaped o d rex) (drop n rows) ≡ find (matches escaped o d rex) rows
-find_behind escaped o d rex zero rows all = refl
-find_behind escaped o d rex (suc n) [] all = refl
-find_behind escaped o d rex (suc n) (x ∷ xs) all =
+-- such rows at the start may be left out of the search
+pub find_after : (escaped : Bool) (o d : ℕ) (rex : Option ℕ) (n : ℕ) (rows : List Row) → list_all (ends_before escaped (o / 16)) (take n rows) ≡ true → find (matches escaped o d rex) (drop n rows) ≡ find (matches escaped o d rex) rows
+find_after escaped o d rex zero rows all = refl
+find_after escaped o d rex (suc n) [] all = refl
+find_after escaped o d rex (suc n) (x ∷ xs) all =
     let tests = and_parts (ends_before escaped (o / 16) x) (list_all (ends_before escaped (o / 16)) (take n xs)) all in
-    rw (before_is_none escaped o d rex x tests.0) (find_behind escaped o d rex n xs tests.1)
+    rw (before_is_none escaped o d rex x tests.0) (find_after escaped o d rex n xs tests.1)
 
--- for each block of sixteen opcodes, of one byte and behind 0F, how many rows end before it
+-- for each block of sixteen opcodes, of one byte and after 0F, how many rows end before it
 abbrev pub starts : List ℕ
 starts =
     0 ∷ 12 ∷ 24 ∷ 36 ∷ 48 ∷ 48 ∷ 50 ∷ 55 ∷ 57 ∷ 90 ∷ 95 ∷ 97 ∷ 99 ∷ 114 ∷ 134 ∷ 137
@@ -237,8 +237,8 @@ start_within escaped o lt =
     leb-true (start escaped (o / 16)) 170 (and_parts (list_all (ends_before escaped (o / 16)) (take (start escaped (o / 16)) table)) (leb (start escaped (o / 16)) 170) (starts_skip escaped (o / 16) block)).1
 
 -- the search may begin there
-pub found_behind : (escaped : Bool) (o d : ℕ) (rex : Option ℕ) → o < 256 → find (matches escaped o d rex) (drop (start escaped (o / 16)) table) ≡ find (matches escaped o d rex) table
-found_behind escaped o d rex lt =
+pub found_after : (escaped : Bool) (o d : ℕ) (rex : Option ℕ) → o < 256 → find (matches escaped o d rex) (drop (start escaped (o / 16)) table) ≡ find (matches escaped o d rex) table
+found_after escaped o d rex lt =
     let block : o / 16 < 16 = omega arith in
     let tests = and_parts (list_all (ends_before escaped (o / 16)) (take (start escaped (o / 16)) table)) (leb (start escaped (o / 16)) 170) (starts_skip escaped (o / 16) block) in
-    find_behind escaped o d rex (start escaped (o / 16)) table tests.0
+    find_after escaped o d rex (start escaped (o / 16)) table tests.0

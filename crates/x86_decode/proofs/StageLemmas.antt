@@ -1,15 +1,15 @@
 -- Each stage of reading: what it takes is spelled by the fields that it gives, and what fields spell is read again.
 use Rattle.std.proofs.Common.{◌≡◌, ℕ, ◌+◌, ◌-◌, ◌*◌, ◌/◌, ◌%◌, ◌<◌, ◌≤◌, Bool, true, false, cond, ltb, leb, eqb, ◌&&◌, List, [], ◌∷◌, ◌++◌, length, take, Option, Some, None, refl, ap, subst, ◌∙◌, append_assoc, arith, inl, inr}
 use Rattle.std.specs.Prelude.{MatchOption, IfSome}
-use Rattle.std.specs.List.{AllByRecursion, prefix_len as front_len}
+use Rattle.std.specs.List.{AllByRecursion, prefix_len as count_while}
 use Rattle.std.proofs.Math.Numerals.{one-add}
 use Rattle.std.proofs.lemmas.Bool.{eqb-true, and_parts, leb-true, ltb-true, le-leb, lt-ltb, cases_Bool}
-use Rattle.x86_meaning.specs.declared.encoding.Sib.{Sib}
-use Rattle.x86_meaning.specs.declared.encoding.ModRm.{ModRm}
-use Rattle.x86_meaning.specs.Fields.{little, rex_bytes, opcode_bytes, has_sib, sib_bytes, disp_len, modrm_bytes, modrm_part, SibStands, FitsModRm}
-use Rattle.x86_meaning.specs.Prefixes.{is_prefix}
+use Rattle.x86_spelling.specs.declared.encoding.Sib.{Sib}
+use Rattle.x86_spelling.specs.declared.encoding.ModRm.{ModRm}
+use Rattle.x86_spelling.specs.Fields.{little, rex_bytes, opcode_bytes, has_sib, sib_bytes, disp_len, modrm_bytes, modrm_part, SibStands, FitsModRm}
+use Rattle.x86_spelling.specs.Prefixes.{is_prefix}
 use Rattle.x86_decode.specs.Reading.{rex_at, escaped_at, opcode_at, digit_at, little_at, sib_at, modrm_at, modrm_for}
-use Rattle.x86_decode.proofs.ByteLemmas.{IsBytes, bytes_behind, both_passed, same_given, Takes, takes_both, little_takes, little_again}
+use Rattle.x86_decode.proofs.ByteLemmas.{IsBytes, bytes_after, both_passed, same_given, Takes, takes_both, little_takes, little_again}
 
 -- a byte is made of two, three and three bits
 pub byte_of_fields : (b : ℕ) → b ≡ 64 * (b / 64) + 8 * (b / 8 % 8) + b % 8
@@ -24,7 +24,7 @@ sib_takes true (b ∷ bytes) x fits e =
     let byte : b < 256 = fits 0 in
     let s : Sib = record { scale = b / 64; index = b / 8 % 8; base = b % 8 } in
     subst (λ (y : Option Sib × List ℕ). Takes (b ∷ bytes) (sib_bytes y.0) y.1 × SibStands true y.0) (same_given (Some s, bytes) x e)
-    (record { parts = ap (λ (c : ℕ). c ∷ bytes) (byte_of_fields b); rest_fits = bytes_behind b bytes fits }, (refl, record { scale = omega arith; index = omega arith; base = omega arith }))
+    (record { parts = ap (λ (c : ℕ). c ∷ bytes) (byte_of_fields b); rest_fits = bytes_after b bytes fits }, (refl, record { scale = omega arith; index = omega arith; base = omega arith }))
 
 -- a SIB byte that stands there is read
 pub sib_again : (stands : Bool) (s : Option Sib) (rest : List ℕ) → SibStands stands s → sib_at stands (sib_bytes s ++ rest) ≡ Some (s, rest)
@@ -47,7 +47,7 @@ modrm_takes (b ∷ bytes) x fits e =
     let byte : b < 256 = fits 0 in
     let s = both_passed (sib_at (has_sib mode rm) bytes) _ x e in
     let d = both_passed (little_at (disp_len mode rm s.0.0) s.0.1) _ x s.2 in
-    let s_takes = sib_takes (has_sib mode rm) bytes s.0 (bytes_behind b bytes fits) s.1 in
+    let s_takes = sib_takes (has_sib mode rm) bytes s.0 (bytes_after b bytes fits) s.1 in
     let d_takes = little_takes (disp_len mode rm s.0.0) s.0.1 d.0 s_takes.0.rest_fits d.1 in
     let tail = takes_both bytes (sib_bytes s.0.0) s.0.1 (little (disp_len mode rm s.0.0) d.0.0) d.0.1 s_takes.0 d_takes.0 in
     let m : ModRm = record { mode = mode; reg = b / 8 % 8; rm = rm; sib = s.0.0; disp = d.0.0 } in
@@ -96,9 +96,9 @@ unfolding escaped_at
 opcode_case true b [] x fits t e = absurd cc
 opcode_case true b (c ∷ bytes) x fits t e =
     subst (λ (y : Bool × ℕ × List ℕ). Takes (b ∷ c ∷ bytes) (opcode_bytes y.0 y.1) y.2) (same_given (true, c, bytes) x e)
-    (record { parts = ap (λ (d : ℕ). d ∷ c ∷ bytes) (eqb-true b 0x0f t); rest_fits = bytes_behind c bytes (bytes_behind b (c ∷ bytes) fits) })
+    (record { parts = ap (λ (d : ℕ). d ∷ c ∷ bytes) (eqb-true b 0x0f t); rest_fits = bytes_after c bytes (bytes_after b (c ∷ bytes) fits) })
 opcode_case false b bytes x fits t e =
-    subst (λ (y : Bool × ℕ × List ℕ). Takes (b ∷ bytes) (opcode_bytes y.0 y.1) y.2) (same_given (false, b, bytes) x e) (record { parts = refl; rest_fits = bytes_behind b bytes fits })
+    subst (λ (y : Bool × ℕ × List ℕ). Takes (b ∷ bytes) (opcode_bytes y.0 y.1) y.2) (same_given (false, b, bytes) x e) (record { parts = refl; rest_fits = bytes_after b bytes fits })
 
 -- an opcode that is read stands there
 pub opcode_takes : (bytes : List ℕ) (x : Bool × ℕ × List ℕ) → IsBytes bytes → opcode_at bytes ≡ Some x → Takes bytes (opcode_bytes x.0 x.1) x.2
@@ -125,7 +125,7 @@ rex_case_takes true b bytes fits t =
     let low : 0x40 ≤ b = leb-true 0x40 b tests.0 in
     let high : b < 0x50 = ltb-true b 0x50 tests.1 in
     let back : b ≡ 0x40 + (b - 0x40) = omega arith in
-    (record { parts = ap (λ (c : ℕ). c ∷ bytes) back; rest_fits = bytes_behind b bytes fits }, omega arith)
+    (record { parts = ap (λ (c : ℕ). c ∷ bytes) back; rest_fits = bytes_after b bytes fits }, omega arith)
 rex_case_takes false b bytes fits t = (record { parts = refl; rest_fits = fits }, tt)
 
 -- a REX byte that is read stands there
@@ -149,7 +149,7 @@ unfolding rex_at
 rex_again_none b rest h = rw h refl
 
 -- the bytes that are read as prefixes are prefixes
-pub prefixes_take : (bytes : List ℕ) → AllByRecursion (λ b. is_prefix b ≡ true) (take (front_len is_prefix bytes) bytes)
+pub prefixes_take : (bytes : List ℕ) → AllByRecursion (λ b. is_prefix b ≡ true) (take (count_while is_prefix bytes) bytes)
 prefixes_take [] = tt
 prefixes_take (b ∷ bytes) =
     elim (cases_Bool (is_prefix b)) [
@@ -158,6 +158,6 @@ prefixes_take (b ∷ bytes) =
     ]
 
 -- prefixes before a byte that is none are all read
-pub prefixes_again : (ps : List ℕ) (c : ℕ) (rest : List ℕ) → AllByRecursion (λ b. is_prefix b ≡ true) ps → is_prefix c ≡ false → front_len is_prefix (ps ++ c ∷ rest) ≡ length ps
+pub prefixes_again : (ps : List ℕ) (c : ℕ) (rest : List ℕ) → AllByRecursion (λ b. is_prefix b ≡ true) ps → is_prefix c ≡ false → count_while is_prefix (ps ++ c ∷ rest) ≡ length ps
 prefixes_again [] c rest all h = rw h refl
 prefixes_again (p ∷ ps) c rest all h = rw (all.0, prefixes_again ps c rest all.1 h) (omega arith)

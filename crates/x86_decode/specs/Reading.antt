@@ -1,16 +1,16 @@
 -- Reading an encoding from left to right: what each stage gives, and the bytes after it.
 use Rattle.std.specs.Prelude.{◌≡◌, ℕ, ◌+◌, ◌-◌, ◌*◌, ◌/◌, ◌%◌, Bool, true, false, ◌&&◌, ◌==◌, nat_lt, nat_le, if◌then◌else◌, List, [], ◌∷◌, length, take, drop, find, Option, Some, None}
-use Rattle.std.specs.List.{prefix_len as front_len}
-use Rattle.x86_meaning.specs.declared.instr.Instr.{Instr}
-use Rattle.x86_meaning.specs.declared.encoding.Row.{Row}
-use Rattle.x86_meaning.specs.declared.encoding.Sib.{Sib}
-use Rattle.x86_meaning.specs.declared.encoding.ModRm.{ModRm}
-use Rattle.x86_meaning.specs.Fields.{has_sib, disp_len, rex_w, is_memory}
-use Rattle.x86_meaning.specs.Table.{table}
-use Rattle.x86_meaning.specs.Rows.{is_at, wants, wants_rex, has_modrm, fits_operand}
-use Rattle.x86_meaning.specs.Prefixes.{is_prefix, is_small, allows}
-use Rattle.x86_meaning.specs.Sizes.{width_of, imm_len, fits_imm}
-use Rattle.x86_meaning.specs.Spells.{Encoding, width, meaning, endbr64_at}
+use Rattle.std.specs.List.{prefix_len as count_while, list_all}
+use Rattle.x86_instr.specs.declared.instr.Instr.{Instr}
+use Rattle.x86_spelling.specs.declared.encoding.Row.{Row}
+use Rattle.x86_spelling.specs.declared.encoding.Sib.{Sib}
+use Rattle.x86_spelling.specs.declared.encoding.ModRm.{ModRm}
+use Rattle.x86_spelling.specs.Fields.{has_sib, disp_len, rex_w, is_memory}
+use Rattle.x86_spelling.specs.Table.{table}
+use Rattle.x86_spelling.specs.Rows.{is_at, wants, wants_rex, has_modrm, fits_operand}
+use Rattle.x86_spelling.specs.Prefixes.{is_prefix, is_small, allows}
+use Rattle.x86_spelling.specs.Sizes.{width_of, imm_len, fits_imm}
+use Rattle.x86_spelling.specs.Spells.{Encoding, width, meaning, endbr64_at}
 
 -- a stage follows one that gave a value
 infixl 10 ◌>>=◌
@@ -23,9 +23,9 @@ abbrev pub Gives : {X Y : Type 0} → (X → Y) → Option X → Option Y → Ty
 Gives view (Some x) read = read ≡ Some (view x)
 Gives view None read = read ≡ None
 
--- how many prefixes stand in front
+-- how many prefixes come first
 unfoldable pub prefix_len : List ℕ → ℕ
-prefix_len bytes = front_len is_prefix bytes
+prefix_len bytes = count_while is_prefix bytes
 
 -- the low four bits of REX, if it stands here
 unfoldable pub rex_at : List ℕ → Option ℕ × List ℕ
@@ -33,7 +33,7 @@ rex_at [] = (None, [])
 rex_at (b ∷ bytes) =
     if nat_le 0x40 b && nat_lt b 0x50 then (Some (b - 0x40), bytes) else (None, b ∷ bytes)
 
--- the opcode behind the escape byte
+-- the opcode after the escape byte
 unfoldable pub escaped_at : List ℕ → Option (Bool × ℕ × List ℕ)
 escaped_at [] = None
 escaped_at (b ∷ bytes) = Some (true, b, bytes)
@@ -53,6 +53,7 @@ abbrev pub matches : Bool → ℕ → ℕ → Option ℕ → Row → Bool
 matches escaped opcode digit rex r =
     is_at escaped opcode r && (wants r.digit digit && wants_rex r rex)
 
+-- the first such row of the map
 unfoldable pub row_at : Bool → ℕ → ℕ → Option ℕ → Option Row
 row_at escaped opcode digit rex = find (matches escaped opcode digit rex) table
 
@@ -61,7 +62,7 @@ abbrev pub value : List ℕ → ℕ
 value [] = 0
 value (b ∷ bytes) = b + 256 * value bytes
 
--- a number of so many bytes
+-- a number of n bytes
 unfoldable pub little_at : ℕ → List ℕ → Option (ℕ × List ℕ)
 little_at n bytes =
     if nat_lt (length bytes) n then None else Some (value (take n bytes), drop n bytes)
@@ -89,15 +90,15 @@ modrm_for true bytes = do
   Some (Some m.0, m.1)
 
 -- the prefixes and REX that were read
-pub record Front : Type 0 where
+pub record Header : Type 0 where
   pub prefixes : List ℕ
   pub rex : Option ℕ
 
 -- the fields are put together
-abbrev pub encoding : Front → Row → ℕ → Option ModRm → ℕ → Encoding
-encoding front row opcode modrm imm = record {
-  prefixes = front.prefixes;
-  rex = front.rex;
+abbrev pub encoding : Header → Row → ℕ → Option ModRm → ℕ → Encoding
+encoding header row opcode modrm imm = record {
+  prefixes = header.prefixes;
+  rex = header.rex;
   row = row;
   opcode = opcode;
   modrm = modrm;
@@ -115,17 +116,18 @@ abbrev pub tested : Encoding → List ℕ → Option (Encoding × List ℕ)
 tested e bytes = if passes e then Some (e, bytes) else None
 
 -- the size of the immediate, by the prefixes, REX and the row
-abbrev pub size_at : Front → Row → ℕ
-size_at front row = imm_len row.imm (width_of row.size (rex_w front.rex) (is_small front.prefixes))
+abbrev pub size_at : Header → Row → ℕ
+size_at header row =
+    imm_len row.imm (width_of row.size (rex_w header.rex) (is_small header.prefixes))
 
--- what stands behind the prefixes and REX
-unfoldable pub fields_at : Front → List ℕ → Option (Encoding × List ℕ)
-fields_at front bytes = do
+-- what stands after the prefixes and REX
+unfoldable pub fields_at : Header → List ℕ → Option (Encoding × List ℕ)
+fields_at header bytes = do
   o ← opcode_at bytes
-  row ← row_at o.0 o.1 (digit_at o.2) front.rex
+  row ← row_at o.0 o.1 (digit_at o.2) header.rex
   m ← modrm_for (has_modrm row.form) o.2
-  i ← little_at (size_at front row) m.1
-  tested (encoding front row o.1 m.0 i.0) i.1
+  i ← little_at (size_at header row) m.1
+  tested (encoding header row o.1 m.0 i.0) i.1
 
 -- the whole encoding
 unfoldable pub encoding_at : List ℕ → Option (Encoding × List ℕ)
@@ -151,6 +153,11 @@ decode_at addr bytes = do
 unfoldable pub instr_at : ℕ → List ℕ → Option Instr
 instr_at addr bytes = if is_endbr64 bytes then Some (endbr64_at addr) else decode_at addr bytes
 
--- the instruction that the bytes begin with, at an address: at most 15 of them are looked at
+-- whether numbers are bytes, as those of each file and each slice are
+abbrev pub are_bytes : List ℕ → Bool
+are_bytes numbers = list_all (λ number. nat_lt number 256) numbers
+
+-- the instruction that a list begins with, at an address: its first 15 numbers are looked at, which must be bytes
 unfoldable pub first_instr : ℕ → List ℕ → Option Instr
-first_instr addr bytes = instr_at addr (take 15 bytes)
+first_instr addr bytes =
+    if are_bytes (take 15 bytes) then instr_at addr (take 15 bytes) else None

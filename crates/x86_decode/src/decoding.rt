@@ -1,7 +1,8 @@
 ghost use Rattle.std.specs.Prelude.{◌≡◌, ◌≤◌, length, IfSome, None, ◌↔◌, List, ℕ, take, ◌++◌};
-ghost use Rattle.x86_meaning.specs.declared.instr.Instr.{Instr};
-ghost use Rattle.x86_meaning.specs.Spells.{Spells, SpellsFront};
-ghost use Rattle.x86_meaning.specs.Fits.{InForm};
+ghost use Rattle.x86_instr.specs.declared.instr.Instr.{Instr};
+ghost use Rattle.x86_spelling.specs.Spells.{Spells, SpellsPrefix};
+ghost use Rattle.x86_instr.specs.Fits.{InForm};
+ghost use Rattle.x86_decode.specs.Laws.{ReadLaw, SpelledLaw};
 ghost use Rattle.x86_decode.specs.Reading.{Gives, fields_at, decode_at, instr_at, first_instr, encoding};
 
 use crate::fields::{
@@ -9,13 +10,15 @@ use crate::fields::{
     source_width_of, width_at,
 };
 use crate::operands::instruction_of;
-use crate::prefixes::{are_allowed, count_byte, count_prefixes, has_size_prefix};
+use crate::prefixes::{FS_OVERRIDE, are_allowed, count_byte, count_prefixes, has_size_prefix};
 use crate::reading::{digit_of, little_of, modrm_if, opcode_of, rex_of};
 use crate::table::row_of;
 use bits_core::Width;
-use x86_meaning::{Instr, ModRm, Op, Operand, Parts, Row, spelled_in_form};
+use spelling_laws::spelled_in_form;
+use x86_instr::{Instr, Op, Operand};
+use x86_spelling::{ModRm, Parts, Row};
 
-// What stands behind the prefixes and REX.
+// What stands after the prefixes and REX.
 #[derive(Clone, Copy)]
 struct Fields {
     row: Row,
@@ -64,7 +67,7 @@ fn decode_row(bytes: &[u8], addr: u64) -> Option<Instr>
     let width = width_at(fields.row.size, rex_bits(rex).w, has_size_prefix(prefixes));
     let parts = Parts {
         next: addr.wrapping_add(len as u64),
-        fs: count_byte(0x64, prefixes) > 0,
+        fs: count_byte(FS_OVERRIDE, prefixes) > 0,
         width,
         src_width: source_width_of(fields.row, width),
         rex,
@@ -77,7 +80,7 @@ fn decode_row(bytes: &[u8], addr: u64) -> Option<Instr>
 }
 
 #[tactic(auto, unfolding(crate::specs::Reading::instr_at))]
-fn decode_front(bytes: &[u8], addr: u64) -> Option<Instr>
+fn decode_first(bytes: &[u8], addr: u64) -> Option<Instr>
     requires { length bytes.now ≤ 15 }
     ensures { result ≡ instr_at addr bytes.now }
 {
@@ -98,7 +101,7 @@ fn decode_front(bytes: &[u8], addr: u64) -> Option<Instr>
 }
 
 // The first 15 bytes, or all where there are fewer.
-fn front_of(bytes: &[u8]) -> &[u8]
+fn first_bytes(bytes: &[u8]) -> &[u8]
     ensures value { result.now ≡ take 15 bytes.now }
     ensures short { length result.now ≤ 15 }
 {
@@ -109,17 +112,24 @@ fn front_of(bytes: &[u8]) -> &[u8]
     }
 }
 
-/// The instruction at `addr` that a front of the bytes spells: a function of the bytes and the address.
+/// The instruction at `addr` that a prefix of the bytes spells: a function of the bytes and the address.
 pub fn decode(bytes: &[u8], addr: u64) -> Option<Instr>
     ensures value { result ≡ first_instr addr bytes.now }
-    ensures found { IfSome result (λ i. (i.addr ≡ addr) × SpellsFront i bytes.now) }
-    ensures only { (i : Instr) → i.addr ≡ addr → SpellsFront i bytes.now → result ≡ Some i }
-    ensures none { (result ≡ None) ↔ ((i : Instr) → i.addr ≡ addr → SpellsFront i bytes.now → ⊥) }
+    ensures found { IfSome result (λ i. (i.addr ≡ addr) × SpellsPrefix i bytes.now) }
+    ensures only { (i : Instr) → i.addr ≡ addr → SpellsPrefix i bytes.now → result ≡ Some i }
+    ensures none { (result ≡ None) ↔ ((i : Instr) → i.addr ≡ addr → SpellsPrefix i bytes.now → ⊥) }
     ensures in_form { IfSome result InForm }
 {
     spelled_in_form();
-    decode_front(front_of(bytes), addr)
+    decode_first(first_bytes(bytes), addr)
 }
+
+/// What is read from a list of numbers is what a prefix of it spells, at every address: what is read is spelled, of any
+/// list, and what bytes spell is read. The call does nothing.
+pub fn reading_laws()
+    ensures found { ReadLaw }
+    ensures only { SpelledLaw }
+{}
 
 /// Two spellings at one address that begin one list of bytes are of one instruction and of one length.
 /// The call does nothing.

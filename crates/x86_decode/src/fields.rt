@@ -1,10 +1,11 @@
 ghost use Rattle.std.specs.Prelude.{◌≡◌, IsTrue};
-ghost use Rattle.x86_meaning.specs.Fields.{rex_w, rex_r, rex_x, rex_b, is_memory};
-ghost use Rattle.x86_meaning.specs.Rows.{has_modrm, fits_operand};
-ghost use Rattle.x86_meaning.specs.Sizes.{width_of, source_width, imm_len, fits_imm, is_length};
+ghost use Rattle.x86_spelling.specs.Fields.{rex_w, rex_r, rex_x, rex_b, is_memory};
+ghost use Rattle.x86_spelling.specs.Rows.{has_modrm, fits_operand};
+ghost use Rattle.x86_spelling.specs.Sizes.{width_of, source_width, imm_len, fits_imm, is_length};
 
 use bits_core::Width;
-use x86_meaning::{Form, ImmSize, ModRm, Op, Row, Size};
+use x86_instr::Op;
+use x86_spelling::{Form, ImmSize, ModRm, Row, Size};
 
 // The low four bits of REX.
 #[derive(Clone, Copy)]
@@ -102,6 +103,7 @@ pub fn has_modrm_byte(form: Form) -> bool
         Form::RmReg
         | Form::RegRm
         | Form::RmImm
+        | Form::RmCount
         | Form::Rm
         | Form::RegRmImm
         | Form::RmOne

@@ -9,7 +9,4 @@ mod prefixes;
 mod reading;
 mod table;
 
-pub use decoding::{decode, one_spelling};
-
-#[cfg(test)]
-mod tests;
+pub use decoding::{decode, one_spelling, reading_laws};

@@ -1,14 +1,15 @@
 ghost use Rattle.std.specs.Prelude.{◌≡◌, ◌<◌, ◌^◌, ◌*◌, ◌+◌, IsTrue};
 ghost use Rattle.std.specs.Option.{ForSome};
-ghost use Rattle.x86_meaning.specs.Fields.{base_field, is_baseless, disp_len, FitsSib, FitsModRm};
-ghost use Rattle.x86_meaning.specs.Sizes.{is_length, sign_extend};
-ghost use Rattle.x86_meaning.specs.Operands.{register, base_of, index_of, scale_of, disp_of, place, rm_operand, reg_operand, opcode_operand, imm_number, target};
-ghost use Rattle.x86_meaning.specs.Instructions.{factor, destination, source, condition, instruction, FitsParts};
+ghost use Rattle.x86_spelling.specs.Fields.{base_field, is_baseless, disp_len, FitsSib, FitsModRm};
+ghost use Rattle.x86_spelling.specs.Sizes.{is_length, sign_extend};
+ghost use Rattle.x86_spelling.specs.Operands.{register, base_of, index_of, scale_of, disp_of, place, rm_operand, reg_operand, opcode_operand, imm_number, target};
+ghost use Rattle.x86_spelling.specs.Instructions.{factor, destination, source, condition, instruction, FitsParts};
 
 use crate::fields::rex_bits;
 use crate::reading::disp_length;
 use bits_core::{Width, cut};
-use x86_meaning::{Form, Instr, ModRm, Op, Operand, Parts, Place, Row, Sib};
+use x86_instr::{Instr, Op, Operand, Place, RAX, RCX, RSP};
+use x86_spelling::{Form, ModRm, Parts, Row, Sib};
 
 fn register_of(width: Width, rex: Option<u8>, number: u8) -> Operand
     ensures { result ≡ register width rex number }
@@ -19,7 +20,7 @@ fn register_of(width: Width, rex: Option<u8>, number: u8) -> Operand
     }
 }
 
-// The number of so many bytes, extended by its sign.
+// The number of len bytes, extended by its sign.
 fn extended(len: u8, n: u64) -> u64
     requires len { IsTrue (is_length len) }
     requires n { n < 256 ^ len }
@@ -65,7 +66,7 @@ fn index_register(rex: Option<u8>, sib: Option<Sib>) -> Option<u8>
     match sib {
         Some(s) => {
             let number = index_number(rex_bits(rex).x, s);
-            if number == 4 { None } else { Some(number) }
+            if number == RSP { None } else { Some(number) }
         }
         None => None,
     }
@@ -90,7 +91,7 @@ fn scale_factor(rex: Option<u8>, sib: Option<Sib>) -> u8
     match sib {
         Some(s) => {
             let number = index_number(rex_bits(rex).x, s);
-            if number == 4 {
+            if number == RSP {
                 1
             } else {
                 power_of_two(s.scale)
@@ -224,11 +225,11 @@ fn destination_of(form: Form, parts: &Parts) -> Operand
     ensures { result ≡ destination form parts.now }
 {
     match form {
-        Form::RmReg | Form::RmImm | Form::Rm | Form::RmOne | Form::RmCl => {
+        Form::RmReg | Form::RmImm | Form::RmCount | Form::Rm | Form::RmOne | Form::RmCl => {
             rm_of(parts.width, parts)
         }
         Form::RegRm | Form::RegRmImm => reg_of(parts),
-        Form::AccImm | Form::AccOp => Operand::Reg(0),
+        Form::AccImm | Form::AccOp => Operand::Reg(RAX),
         Form::OpImm | Form::OpReg => opcode_register(parts),
         Form::Offset => target_of(parts),
         Form::ImmOnly => Operand::Imm(immediate(parts)),
@@ -244,8 +245,9 @@ fn source_of(form: Form, parts: &Parts) -> Operand
         Form::RmReg => reg_of(parts),
         Form::RegRm | Form::RegRmImm => rm_of(parts.src_width, parts),
         Form::RmImm | Form::AccImm | Form::OpImm => Operand::Imm(immediate(parts)),
+        Form::RmCount => Operand::Imm(cut(Width::W8, parts.imm)),
         Form::RmOne => Operand::Imm(1),
-        Form::RmCl => Operand::Reg(1),
+        Form::RmCl => Operand::Reg(RCX),
         Form::AccOp => opcode_register(parts),
         Form::OpReg | Form::Rm | Form::Offset | Form::ImmOnly | Form::RmIgnored | Form::Nothing =>
             Operand::None,

@@ -1,8 +1,18 @@
 ghost use Rattle.std.specs.Prelude.{◌≡◌, ◌≤◌, length, count_by};
-ghost use Rattle.x86_meaning.specs.Prefixes.{is_plain, is_prefix, count, is_small, limits, allows_segment, allows};
+ghost use Rattle.x86_spelling.specs.Prefixes.{is_plain, is_prefix, count, is_small, limits, allows_segment, allows};
 ghost use Rattle.x86_decode.specs.Reading.{prefix_len};
 
-use x86_meaning::PrefixRule;
+use x86_spelling::PrefixRule;
+
+pub const FS_OVERRIDE: u8 = 0x64;
+
+const OPERAND_SIZE: u8 = 0x66;
+
+const ADDRESS_SIZE: u8 = 0x67;
+
+const REPNE: u8 = 0xf2;
+
+const REP: u8 = 0xf3;
 
 // How often each prefix may stand before an opcode.
 #[derive(Clone, Copy)]
@@ -31,10 +41,7 @@ fn is_plain_byte(b: u8) -> bool
 fn is_prefix_byte(b: u8) -> bool
     ensures { result ≡ is_prefix b }
 {
-    matches!(
-        b,
-        0x26 | 0x2e | 0x36 | 0x3e | 0x64 | 0x66 | 0x67 | 0xf2 | 0xf3
-    )
+    is_plain_byte(b) || matches!(b, FS_OVERRIDE | OPERAND_SIZE | ADDRESS_SIZE | REPNE | REP)
 }
 
 #[tactic(auto, unfolding(crate::specs::Reading::prefix_len))]
@@ -60,7 +67,7 @@ fn count_plain(prefixes: &[u8]) -> usize
 pub fn has_size_prefix(prefixes: &[u8]) -> bool
     ensures { result ≡ is_small prefixes.now }
 {
-    count_byte(0x66, prefixes) > 0
+    count_byte(OPERAND_SIZE, prefixes) > 0
 }
 
 fn limits_of(rule: PrefixRule) -> Limits
@@ -100,7 +107,7 @@ fn limits_of(rule: PrefixRule) -> Limits
 fn is_segment_allowed(rule: PrefixRule, memory: bool, prefixes: &[u8]) -> bool
     ensures { result ≡ allows_segment rule memory prefixes.now }
 {
-    let segments = count_byte(0x64, prefixes);
+    let segments = count_byte(FS_OVERRIDE, prefixes);
     segments == 0 || (memory && segments <= limits_of(rule).segment && count_plain(prefixes) == 0)
 }
 
@@ -108,9 +115,9 @@ pub fn are_allowed(rule: PrefixRule, memory: bool, prefixes: &[u8]) -> bool
     ensures { result ≡ allows rule memory prefixes.now }
 {
     let most = limits_of(rule);
-    count_byte(0x66, prefixes) <= most.size
-        && count_byte(0x67, prefixes) <= most.address
-        && count_byte(0xf2, prefixes) <= most.repne
-        && count_byte(0xf3, prefixes) <= most.rep
+    count_byte(OPERAND_SIZE, prefixes) <= most.size
+        && count_byte(ADDRESS_SIZE, prefixes) <= most.address
+        && count_byte(REPNE, prefixes) <= most.repne
+        && count_byte(REP, prefixes) <= most.rep
         && is_segment_allowed(rule, memory, prefixes)
 }

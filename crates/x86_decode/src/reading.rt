@@ -1,9 +1,9 @@
 ghost use Rattle.std.specs.Prelude.{◌≡◌, ◌≤◌, length, IsTrue};
-ghost use Rattle.x86_meaning.specs.Fields.{disp_len};
-ghost use Rattle.x86_meaning.specs.Sizes.{is_length};
+ghost use Rattle.x86_spelling.specs.Fields.{disp_len};
+ghost use Rattle.x86_spelling.specs.Sizes.{is_length};
 ghost use Rattle.x86_decode.specs.Reading.{Gives, rex_at, opcode_at, digit_at, little_at, sib_at, modrm_at, modrm_for, value};
 
-use x86_meaning::{ModRm, Sib};
+use x86_spelling::{ModRm, Sib};
 
 #[tactic(auto, unfolding(crate::specs::Reading::rex_at))]
 pub fn rex_of(bytes: &[u8]) -> (Option<u8>, &[u8])

@@ -1,11 +1,12 @@
 ghost use Rattle.std.specs.Prelude.{◌≡◌, ◌≤◌, ◌+◌, ◌/◌, ℕ, Option, if◌then◌else◌, length, drop, find};
-ghost use Rattle.x86_meaning.specs.Table.{table};
-ghost use Rattle.x86_meaning.specs.Rows.{is_at, wants};
+ghost use Rattle.x86_spelling.specs.Table.{table};
+ghost use Rattle.x86_spelling.specs.Rows.{is_at, wants};
 ghost use Rattle.x86_decode.specs.Reading.{matches, row_at};
 
 use crate::fields::rex_bits;
 use bits_core::Width;
-use x86_meaning::{Form, ImmSize, Op, PrefixRule, Row, Size};
+use x86_instr::Op;
+use x86_spelling::{Form, ImmSize, PrefixRule, Row, Size};
 
 const BYTE: Row = Row {
     escaped: false,
@@ -152,16 +153,16 @@ static ROWS: [Row; 170] = [
     row!(V 0xa9 Test AccImm Z),
     row!(BYTE 0xb0 Mov OpImm Byte, span: 8),
     row!(V 0xb8 Mov OpImm V, span: 8),
-    row!(BYTE 0xc0 Rol RmImm Count, digit: Some(0)),
-    row!(BYTE 0xc0 Ror RmImm Count, digit: Some(1)),
-    row!(BYTE 0xc0 Shl RmImm Count, digit: Some(4)),
-    row!(BYTE 0xc0 Shr RmImm Count, digit: Some(5)),
-    row!(BYTE 0xc0 Sar RmImm Count, digit: Some(7)),
-    row!(V 0xc1 Rol RmImm Count, digit: Some(0)),
-    row!(V 0xc1 Ror RmImm Count, digit: Some(1)),
-    row!(V 0xc1 Shl RmImm Count, digit: Some(4)),
-    row!(V 0xc1 Shr RmImm Count, digit: Some(5)),
-    row!(V 0xc1 Sar RmImm Count, digit: Some(7)),
+    row!(BYTE 0xc0 Rol RmCount Count, digit: Some(0)),
+    row!(BYTE 0xc0 Ror RmCount Count, digit: Some(1)),
+    row!(BYTE 0xc0 Shl RmCount Count, digit: Some(4)),
+    row!(BYTE 0xc0 Shr RmCount Count, digit: Some(5)),
+    row!(BYTE 0xc0 Sar RmCount Count, digit: Some(7)),
+    row!(V 0xc1 Rol RmCount Count, digit: Some(0)),
+    row!(V 0xc1 Ror RmCount Count, digit: Some(1)),
+    row!(V 0xc1 Shl RmCount Count, digit: Some(4)),
+    row!(V 0xc1 Shr RmCount Count, digit: Some(5)),
+    row!(V 0xc1 Sar RmCount Count, digit: Some(7)),
     row!(QUAD 0xc3 Ret Nothing Absent, prefixes: PrefixRule::Return),
     row!(BYTE 0xc6 Mov RmImm Byte, digit: Some(0)),
     row!(V 0xc7 Mov RmImm Z, digit: Some(0)),
@@ -263,11 +264,11 @@ fn find_row(rows: &[Row], escaped: bool, opcode: u8, digit: u8, rex: Option<u8>)
     None
 }
 
-// For each sixteen opcodes, those of one byte first and then those behind 0F, the place of the first
+// For each sixteen opcodes, those of one byte first and then those after 0F, the place of the first
 // row that may be for one of them.
 static STARTS: [u8; 32] = [
     0, 12, 24, 36, 48, 48, 50, 55, 57, 90, 95, 97, 99, 114, 134, 137, // of one byte
-    155, 157, 158, 158, 158, 160, 160, 160, 160, 162, 164, 165, 169, 170, 170, 170, // behind 0F
+    155, 157, 158, 158, 158, 160, 160, 160, 160, 162, 164, 165, 169, 170, 170, 170, // after 0F
 ];
 
 fn block_of(escaped: bool, opcode: u8) -> usize

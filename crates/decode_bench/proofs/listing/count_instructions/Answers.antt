@@ -1,5 +1,5 @@
 use Rattle.std.proofs.Common.{IfSome, sym, subst, ◌∙◌, arith}
-use Rattle.x86_meaning.specs.Fits.{InForm}
+use Rattle.x86_instr.specs.Fits.{InForm}
 use Rattle.decode_bench.specs.Sweep.Sweeps.{begins}
 use Rattle.decode_bench.proofs.SweepLemmas.{past_instruction, past_byte, inside}
 use Rattle.decode_bench.proofs.listing.count_instructions.Goals as goal

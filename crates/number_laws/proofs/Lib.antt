@@ -1,0 +1,3 @@
+pub mod LowBitsLemmas
+pub mod ComparisonLemmas
+pub mod ArithmeticLemmas

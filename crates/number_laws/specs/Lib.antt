@@ -1,0 +1,2 @@
+pub mod LowBitLaws
+pub mod Laws

@@ -1,0 +1,3 @@
+pub mod OperandLemmas
+pub mod TableLemmas
+pub mod FormLemmas

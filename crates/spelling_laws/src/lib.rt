@@ -1,0 +1,6 @@
+//! What is true of every spelling.
+#![tactic(auto)]
+
+mod laws;
+
+pub use laws::spelled_in_form;

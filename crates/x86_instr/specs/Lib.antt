@@ -1,0 +1,4 @@
+pub mod Registers
+pub mod Classes
+pub mod Kinds
+pub mod Fits

@@ -1,0 +1,10 @@
+pub mod Memory
+pub mod State
+pub mod Access
+pub mod Steps
+pub mod Moves
+pub mod Next
+pub mod Named
+pub mod Preserves
+pub mod StepLaws
+pub mod NamedLaws

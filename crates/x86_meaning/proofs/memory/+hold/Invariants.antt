@@ -1,4 +1,0 @@
-use Rattle.x86_meaning.proofs.memory.+hold.Given as goal
-
-abbrev pub decreases-hold : goal.decreases-hold
-decreases-hold l = l.n

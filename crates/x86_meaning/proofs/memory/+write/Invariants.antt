@@ -1,4 +1,0 @@
-use Rattle.x86_meaning.proofs.memory.+write.Given as goal
-
-abbrev pub decreases-write : goal.decreases-write
-decreases-write l = l.n

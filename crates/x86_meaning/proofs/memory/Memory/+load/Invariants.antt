@@ -1,4 +1,0 @@
-use Rattle.x86_meaning.proofs.memory.Memory.+load.Given as goal
-
-abbrev pub decreases-load : goal.decreases-load
-decreases-load l = l.n

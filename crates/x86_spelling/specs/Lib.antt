@@ -1,0 +1,9 @@
+pub mod Fields
+pub mod RowForms
+pub mod Table
+pub mod Rows
+pub mod Prefixes
+pub mod Sizes
+pub mod Operands
+pub mod Instructions
+pub mod Spells
