@@ -1,4 +1,4 @@
--- Where segments ascend and do not overlap, the first one that ends behind an address is the one that may have it.
+-- Where segments ascend and do not overlap, the first one that ends past an address is the one that may have it.
 use Rattle.std.proofs.Common.{◌≡◌, ℕ, zero, suc, ◌+◌, ◌<◌, ◌≤◌, Bool, true, false, cond, ◌&&◌, List, [], ◌∷◌, length, get_or, Option, Some, None, is_some, refl, ◌∙◌, ap, arith, find, slice_get, inl, inr, nat_le}
 use Rattle.std.specs.List.{list_any}
 use Rattle.std.specs.List.Sorted.{IsPartitionPoint, IsPartitionedBy}
@@ -57,15 +57,15 @@ only_at : (p : Segment → Bool) (segs : List Segment) (at : ℕ)
     → ((k : ℕ) (d : Segment) → k < at → k < length segs → p (get_or segs k d) ≡ false)
     → ((k : ℕ) (d : Segment) → at < k → k < length segs → p (get_or segs k d) ≡ false)
     → find p segs ≡ kept p (slice_get segs at)
-only_at p [] at before behind = refl
-only_at p (s ∷ segs) zero before behind =
+only_at p [] at before after = refl
+only_at p (s ∷ segs) zero before after =
     elim (p s) as (λ b. cond b (Some s) (find p segs) ≡ cond b (Some s) None) [
       | true ↦ refl
-      | false ↦ find-none p segs (λ k d l. behind (suc k) d (omega arith) (omega arith))
+      | false ↦ find-none p segs (λ k d l. after (suc k) d (omega arith) (omega arith))
     ]
-only_at p (s ∷ segs) (suc at) before behind =
+only_at p (s ∷ segs) (suc at) before after =
     let first : p s ≡ false = before zero s (omega arith) (omega arith) in
-    rw first (only_at p segs at (λ k d l m. before (suc k) d (omega arith) (omega arith)) (λ k d l m. behind (suc k) d (omega arith) (omega arith)))
+    rw first (only_at p segs at (λ k d l m. before (suc k) d (omega arith) (omega arith)) (λ k d l m. after (suc k) d (omega arith) (omega arith)))
 
 -- the segment at the place up to which all end by the address is the one that may pass
 pub find-at : (segs : List Segment) → AreSegments segs → (addr at : ℕ)

@@ -6,6 +6,7 @@ use Rattle.byteorder.specs.Endian.{little_number}
 use Rattle.elf_image.specs.declared.image.Segment.{Segment}
 use Rattle.elf_image.specs.declared.image.Image.{Image}
 use Rattle.elf_image.specs.Segments.{AreSegments}
+use Rattle.elf_image.specs.Constants.{most_instruction_bytes}
 
 -- the segments of an image ascend and do not overlap
 abbrev pub IsImage : Image → Type 0
@@ -15,11 +16,12 @@ IsImage image = AreSegments image.segs
 abbrev pub has_code_at : ℕ → Segment → Bool
 has_code_at addr s = s.exec && nat_le s.lo addr && nat_lt addr (s.lo + length s.bytes)
 
--- the file bytes of the executable segment from the address on, at most 15
+-- the file bytes of the executable segment from the address on, at most those of an instruction
 abbrev pub code_in : ℕ → Option Segment → List ℕ
-code_in addr (Some s) = take 15 (drop (addr - s.lo) s.bytes)
+code_in addr (Some s) = take most_instruction_bytes (drop (addr - s.lo) s.bytes)
 code_in addr None = []
 
+-- the code at an address
 abbrev pub code_of : Image → ℕ → List ℕ
 code_of image addr = code_in addr (find (has_code_at addr) image.segs)
 
@@ -27,10 +29,11 @@ code_of image addr = code_in addr (find (has_code_at addr) image.segs)
 abbrev pub is_code_at : Image → ℕ → Bool
 is_code_at image addr = not (length (code_of image addr) == 0)
 
--- so many bytes from the address on lie in the segment
+-- n bytes from the address on lie in the segment
 abbrev pub holds_bytes : ℕ → ℕ → Segment → Bool
 holds_bytes addr n s = nat_le s.lo addr && nat_le (addr + n) (s.lo + s.size)
 
+-- they lie in one segment
 abbrev pub covers_bytes : Image → ℕ → ℕ → Bool
 covers_bytes image addr n = list_any (holds_bytes addr n) image.segs
 
@@ -42,11 +45,12 @@ memory_of s = s.bytes ++ replicate (s.size - length s.bytes) 0
 abbrev pub is_fixed : Segment → Bool
 is_fixed s = not s.write || s.exec
 
--- the little-endian number in so many bytes from the address on, of such a segment
+-- the little-endian number in n bytes from the address on, of such a segment
 abbrev pub number_in : ℕ → ℕ → Option Segment → Option ℕ
 number_in addr n (Some s) = Some (little_number n (drop (addr - s.lo) (memory_of s)))
 number_in addr n None = None
 
+-- the fixed number at an address
 abbrev pub fixed_of : Image → ℕ → ℕ → Option ℕ
 fixed_of image addr n =
     number_in addr n (find (λ s. is_fixed s && holds_bytes addr n s) image.segs)

@@ -1,3 +1,4 @@
+pub mod Constants
 pub mod Segments
 pub mod Image
 pub mod At

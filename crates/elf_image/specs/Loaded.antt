@@ -3,19 +3,13 @@ use Rattle.std.specs.Prelude.{◌≡◌, ℕ, ◌==◌, Bool, not, List, map, ta
 use Rattle.elf_image.specs.declared.header.ProgramHeader.{ProgramHeader}
 use Rattle.elf_image.specs.declared.image.Segment.{Segment}
 use Rattle.elf_image.specs.declared.image.Image.{Image}
+use Rattle.elf_image.specs.Constants.{executable_flag, writable_flag}
 use Rattle.elf_image.specs.File.{entry_of, loaded_of}
 use Rattle.elf_image.specs.Refusal.{refusal_of}
 
 -- a bit of p_flags is set
 abbrev pub has_flag : ℕ → ProgramHeader → Bool
 has_flag flag h = not (bit_and h.flags flag == 0)
-
--- PF_X and PF_W
-abbrev pub executable_flag : ℕ
-executable_flag = 1
-
-abbrev pub writable_flag : ℕ
-writable_flag = 2
 
 -- p_memsz bytes at p_vaddr, of which the first are the p_filesz bytes of the file from p_offset on
 abbrev pub segment_of : List ℕ → ProgramHeader → Segment

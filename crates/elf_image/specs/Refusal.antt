@@ -5,6 +5,7 @@ use Rattle.std.specs.List.{list_any, starts_with}
 use Rattle.elf_image.specs.declared.header.ProgramHeader.{ProgramHeader}
 use Rattle.elf_image.specs.declared.refusal.ElfRefusal.{ElfRefusal}
 use Rattle.elf_image.specs.declared.refusal.ElfRefusal.TheVariants.{TooShort, BadMagic, NotClass64, NotLittle, BadVersion, NotExec, NotX8664, BadEntrySize, TableOutside, TooManyHeaders, NoLoad, SegmentOutside, SegmentWraps, FileOverMemory, SegmentsUnordered, NoMemory}
+use Rattle.elf_image.specs.Constants.{file_header_size, program_header_size, magic, class_64, little_endian, current_version, executable_type, x86_64_machine, most_headers}
 use Rattle.elf_image.specs.File.{type_of, machine_of, table_of, entry_size_of, count_of, loaded_of}
 
 -- a refusal with the test of the files that it is for
@@ -16,31 +17,27 @@ abbrev pub first_refusal : Tests → Option ElfRefusal
 first_refusal [] = None
 first_refusal (test ∷ rest) = cond test.0 (Some test.1) (first_refusal rest)
 
--- the magic number (ELF-64, e_ident)
-abbrev pub magic : List ℕ
-magic = 0x7F ∷ codes "ELF"
-
 -- the length of the file, and e_ident: magic number, class, byte order and version
 unfoldable pub identification_tests : List ℕ → Tests
 identification_tests file =
-    (nat_lt (length file) 64, TooShort)
+    (nat_lt (length file) file_header_size, TooShort)
     ∷ (not (starts_with nat_eq file magic), BadMagic)
-    ∷ (not (slice_index file 4 == 2), NotClass64)
-    ∷ (not (slice_index file 5 == 1), NotLittle)
-    ∷ (not (slice_index file 6 == 1), BadVersion)
+    ∷ (not (slice_index file 4 == class_64), NotClass64)
+    ∷ (not (slice_index file 5 == little_endian), NotLittle)
+    ∷ (not (slice_index file 6 == current_version), BadVersion)
     ∷ []
 
 -- type, machine, and the place, size and number of the program headers
 unfoldable pub header_tests : List ℕ → Tests
 header_tests file =
-    (not (type_of file == 2), NotExec)
-    ∷ (not (machine_of file == 62), NotX8664)
-    ∷ (not (entry_size_of file == 56), BadEntrySize)
-    ∷ (nat_lt (length file) (table_of file + 56 * count_of file), TableOutside)
-    ∷ (nat_lt 64 (count_of file), TooManyHeaders)
+    (not (type_of file == executable_type), NotExec)
+    ∷ (not (machine_of file == x86_64_machine), NotX8664)
+    ∷ (not (entry_size_of file == program_header_size), BadEntrySize)
+    ∷ (nat_lt (length file) (table_of file + program_header_size * count_of file), TableOutside)
+    ∷ (nat_lt most_headers (count_of file), TooManyHeaders)
     ∷ []
 
--- the file part ends past a file of so many bytes
+-- the file part ends past the end of a file of this length
 abbrev pub is_outside : ℕ → ProgramHeader → Bool
 is_outside size h = nat_lt size (h.offset + h.file_size)
 
@@ -56,7 +53,7 @@ is_over_memory h = nat_lt h.memory_size h.file_size
 abbrev pub overlaps : ProgramHeader × ProgramHeader → Bool
 overlaps pair = nat_lt pair.1.address (pair.0.address + pair.0.memory_size)
 
--- the headers that load something, in a file of so many bytes
+-- the headers that load something, in a file of this length
 unfoldable pub segment_tests : ℕ → List ProgramHeader → Tests
 segment_tests size loaded =
     (length loaded == 0, NoLoad)

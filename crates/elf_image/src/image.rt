@@ -168,7 +168,7 @@ impl Image {
         }
     }
 
-    // The first segment that ends behind the address: the one segment that may have it.
+    // The first segment that ends past the address: the one segment that may have it.
     fn segment_at(&self, addr: u64) -> Option<&Segment>
         ensures { (p : PlainSegment → Bool) → IsAt addr p → find p self.now.segs ≡ kept p (option_copied result) }
     {

@@ -12,6 +12,3 @@ mod refusal;
 pub use image::{Image, Segment};
 pub use reading::read_elf;
 pub use refusal::ElfRefusal;
-
-#[cfg(test)]
-mod tests;

@@ -1,7 +1,8 @@
 // The segments that the program headers load.
 ghost use Rattle.std.specs.Prelude.{◌≡◌, ℕ, ◌+◌, ◌*◌, ◌≤◌, ◌<◌, List, length, map, All, IfOk, IfErr};
 ghost use Rattle.elf_image.specs.File.{table_of, count_of, loaded_of};
-ghost use Rattle.elf_image.specs.Loaded.{segment_of, has_flag, executable_flag, writable_flag};
+ghost use Rattle.elf_image.specs.Constants.{executable_flag, writable_flag};
+ghost use Rattle.elf_image.specs.Loaded.{segment_of, has_flag};
 
 use crate::header::{PROGRAM_HEADER_SIZE, ProgramHeader, u16_at, u64_at};
 use crate::{ElfRefusal, Segment};

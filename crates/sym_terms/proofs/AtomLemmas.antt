@@ -1,29 +1,20 @@
--- Fits and pairs of terms: their values, their normal form, and how many nodes they have.
-use Rattle.std.proofs.Common.{◌≡◌, ℕ, ◌+◌, ◌*◌, ◌%◌, ◌^◌, ◌<◌, ◌≤◌, Bool, true, false, if◌then◌else◌, Option, Some, None, refl, sym, ap, ap₂, subst, ◌∙◌, arith, bit_and, bit_or, bit_xor}
-use Rattle.std.proofs.lemmas.Bool.Decides.{nat_tests}
-use Rattle.std.proofs.Math.Nat.{mod-eq_of_lt, mod-lt, mul_comm}
-use Rattle.std.proofs.Math.Pow.{pow_mono}
-use Rattle.std.specs.Int.Bits.{and_self, or_self, xor_self}
+-- Fits and pairs of terms: their normal form, and how many nodes they have.
+use Rattle.std.proofs.Common.{◌≡◌, ℕ, ◌+◌, ◌^◌, ◌<◌, ◌≤◌, Bool, true, false, if◌then◌else◌, Option, Some, None, refl, ap, subst, arith}
 use Rattle.std.specs.declared.cmp.Ordering.{Ordering}
 use Rattle.std.specs.declared.cmp.Ordering.TheVariants.{Less, Equal, Greater}
 use Rattle.std.specs.Ordering.{is_eq}
-use Rattle.sym_terms.specs.declared.kinds.Sym.{Sym}
-use Rattle.sym_terms.specs.declared.kinds.Sym.TheVariants.{Entry, Ra, FsBase, Named}
 use Rattle.sym_terms.specs.declared.kinds.Fit.{Fit}
 use Rattle.sym_terms.specs.declared.kinds.Pair.{Pair}
 use Rattle.sym_terms.specs.declared.kinds.Pair.TheVariants.{And, Or, Xor, Mul, Shr, Sar}
-use Rattle.sym_terms.specs.Plain.{PlainSum, sum, none, more, PlainAtom, symbol, fitted, paired, constant_alone, alone, IsSymbol}
+use Rattle.sym_terms.specs.Plain.{PlainSum, sum, none, more, PlainAtom, fitted, paired, constant_alone, single_atom}
 use Rattle.sym_terms.specs.Nodes.{nodes}
 use Rattle.sym_terms.specs.Order.{sum_cmp}
-use Rattle.sym_terms.specs.Codes.{sum_same}
-use Rattle.sym_terms.specs.Numbers.{fit_number, pair_number}
-use Rattle.sym_terms.specs.Value.{Valuation, IsInRange, value, value_of_symbol, value_of_pieces, value_of_atom}
-use Rattle.sym_terms.specs.Normal.{times, atom_bits, kept_bits, stays, fit, fit_by, pair, pair_by, pair_alone, pair_scaled, IsNormal, IsNormalAtom}
-use Rattle.sym_terms.proofs.SumLemmas.{plus_times_normal, plus_times_nodes, plus_times_value}
-use Rattle.sym_terms.proofs.NumberLemmas.{fit_number_below, fit_number_same, fit_number_bits, pair_number_below}
+use Rattle.sym_terms.specs.Normal.{fit_is_identity, fit, pair, pair_by, pair_alone, pair_scaled, IsNormal, IsNormalAtom}
+use Rattle.sym_terms.proofs.SumLemmas.{plus_times_normal, plus_times_nodes}
+use Rattle.sym_terms.proofs.NumberLemmas.{fit_number_below, pair_number_below}
 
 -- a normal atom alone is a normal term
-pub alone_normal : (a : PlainAtom) → IsNormalAtom a → IsNormal (alone a)
+pub alone_normal : (a : PlainAtom) → IsNormalAtom a → IsNormal (single_atom a)
 alone_normal a n = (omega arith, (n, omega arith, omega arith, tt, tt))
 
 -- so is 0
@@ -37,9 +28,9 @@ pub fit_normal : (f : Fit) (a : PlainSum) → IsNormal a → IsNormal (fit f a)
 unfolding fit
 fit_normal f (sum c none) n = (fit_number_below f c, tt)
 fit_normal f (sum c (more b k xs)) n =
-    (elim (stays f (sum c (more b k xs))) as (λ t. stays f (sum c (more b k xs)) ≡ t → IsNormal (if t then sum c (more b k xs) else alone (fitted f (sum c (more b k xs))))) [
+    (elim (fit_is_identity f (sum c (more b k xs))) as (λ t. fit_is_identity f (sum c (more b k xs)) ≡ t → IsNormal (if t then sum c (more b k xs) else single_atom (fitted f (sum c (more b k xs))))) [
       | true ↦ λ e. n
-      | false ↦ λ e. alone_normal (fitted f (sum c (more b k xs))) (n, ap (λ t. if t then sum c (more b k xs) else alone (fitted f (sum c (more b k xs)))) e)
+      | false ↦ λ e. alone_normal (fitted f (sum c (more b k xs))) (n, ap (λ t. if t then sum c (more b k xs) else single_atom (fitted f (sum c (more b k xs)))) e)
     ]) refl
 
 -- a fit adds two nodes at most
@@ -47,7 +38,7 @@ pub fit_nodes : (f : Fit) (a : PlainSum) → nodes (fit f a) ≤ nodes a + 2
 unfolding fit
 fit_nodes f (sum c none) = omega arith
 fit_nodes f (sum c (more b k xs)) =
-    elim (stays f (sum c (more b k xs))) as (λ t. nodes (if t then sum c (more b k xs) else alone (fitted f (sum c (more b k xs)))) ≤ nodes (sum c (more b k xs)) + 2) [
+    elim (fit_is_identity f (sum c (more b k xs))) as (λ t. nodes (if t then sum c (more b k xs) else single_atom (fitted f (sum c (more b k xs)))) ≤ nodes (sum c (more b k xs)) + 2) [
       | true ↦ omega arith
       | false ↦ omega arith
     ]
@@ -55,13 +46,13 @@ fit_nodes f (sum c (more b k xs)) =
 -- ---- pairs
 
 -- the constant of a normal term has 64 bits
-constant_below : (a : PlainSum) (x : ℕ) → IsNormal a → constant_alone a ≡ Some x → x < 2 ^ 64
+pub constant_below : (a : PlainSum) (x : ℕ) → IsNormal a → constant_alone a ≡ Some x → x < 2 ^ 64
 constant_below (sum c none) x n e = let f : c ≡ x = cc in subst (λ y. y < 2 ^ 64) f n.0
 constant_below (sum c (more b k xs)) x n e = absurd (cc)
 
 -- what a pair of one term with itself is, or the atom
-either_normal : (t : Bool) (c : PlainSum) (a : PlainAtom) (whole : PlainSum) → IsNormal c → (whole ≡ (if t then c else alone a))
-    → (whole ≡ alone a → IsNormalAtom a) → IsNormal (if t then c else alone a)
+either_normal : (t : Bool) (c : PlainSum) (a : PlainAtom) (whole : PlainSum) → IsNormal c → (whole ≡ (if t then c else single_atom a))
+    → (whole ≡ single_atom a → IsNormalAtom a) → IsNormal (if t then c else single_atom a)
 either_normal true c a whole n e h = n
 either_normal false c a whole n e h = alone_normal a (h e)
 
@@ -96,7 +87,7 @@ unfolding pair
 pair_normal p a b na nb = pair_by_normal p (constant_alone a) (constant_alone b) a b na nb refl refl refl
 
 -- either result is small where both are
-either_nodes : (t : Bool) (c : PlainSum) (a : PlainAtom) (n : ℕ) → nodes c ≤ n → nodes (alone a) ≤ n → nodes (if t then c else alone a) ≤ n
+either_nodes : (t : Bool) (c : PlainSum) (a : PlainAtom) (n : ℕ) → nodes c ≤ n → nodes (single_atom a) ≤ n → nodes (if t then c else single_atom a) ≤ n
 either_nodes true c a n h i = h
 either_nodes false c a n h i = i
 
@@ -130,142 +121,8 @@ pub pair_nodes : (p : Pair) (a b : PlainSum) → nodes (pair p a b) ≤ nodes a 
 unfolding pair
 pair_nodes p a b = pair_by_nodes p (constant_alone a) (constant_alone b) a b
 
--- ---- values
-
 -- orders that are Equal
 pub equal_from : (o : Ordering) → is_eq o ≡ true → o ≡ Equal
 equal_from Less e = absurd (cc)
 equal_from Equal e = refl
 equal_from Greater e = absurd (cc)
-
-module _ (u : Valuation) (range : IsInRange u) where
-  -- every value has 64 bits
-  pub value_below : (a : PlainSum) → value u a < 2 ^ 64
-  value_below (sum c xs) = mod-lt (c + value_of_pieces u xs) (omega arith)
-
-  -- so has that of a symbol
-  symbol_below : (s : Sym) → IsSymbol s → value_of_symbol u s < 2 ^ 64
-  symbol_below (Entry r) h = range.entries r h
-  symbol_below Ra h = range.return_address
-  symbol_below FsBase h = range.fs_base
-  symbol_below (Named a) h = range.names a
-
-  -- so has that of a normal atom
-  atom_below : (a : PlainAtom) → IsNormalAtom a → value_of_atom u a < 2 ^ 64
-  atom_below (symbol s) n = symbol_below s n
-  atom_below (fitted f a) n = fit_number_below f (value u a)
-  atom_below (paired p a b) n = pair_number_below p _ _ (value_below a) (value_below b)
-
-  -- the value of an atom has no more bits than the atom
-  atom_bits_below : (a : PlainAtom) → IsNormalAtom a → value_of_atom u a < 2 ^ atom_bits a
-  atom_bits_below (symbol s) n = symbol_below s n
-  atom_bits_below (fitted f a) n = fit_number_bits f (value u a)
-  atom_bits_below (paired p a b) n = atom_below (paired p a b) n
-
-  -- once a number is that number, modulo m
-  one_piece : (v m : ℕ) → v < m → (0 + (1 * v + 0)) % m ≡ v
-  one_piece v m h = let e : 0 + (1 * v + 0) ≡ v = omega arith in rw e (mod-eq_of_lt h)
-
-  -- one atom has the atom's value
-  pub alone_value : (a : PlainAtom) → value_of_atom u a < 2 ^ 64 → value u (alone a) ≡ value_of_atom u a
-  alone_value a h = one_piece (value_of_atom u a) (2 ^ 64) h
-
-  -- a symbol alone has its value
-  pub symbol_value : (s : Sym) → IsSymbol s → value u (alone (symbol s)) ≡ value_of_symbol u s
-  symbol_value s h = alone_value (symbol s) (symbol_below s h)
-
-  -- a constant has its own value
-  pub number_value : (n : ℕ) → n < 2 ^ 64 → value u (sum n none) ≡ n
-  number_value n h = let e : n + 0 ≡ n = omega arith in rw e (mod-eq_of_lt h)
-
-  -- a term that is a constant has that value
-  pub constant_value : (a : PlainSum) (x : ℕ) → IsNormal a → constant_alone a ≡ Some x → value u a ≡ x
-  constant_value (sum c none) x n e = let f : c ≡ x = cc in number_value c n.0 ∙ f
-  constant_value (sum c (more b k xs)) x n e = absurd (cc)
-
-  -- a term that stays under a fit has a value that the fit keeps
-  stays_value : (f : Fit) (a : PlainSum) → IsNormal a → stays f a ≡ true → value u a ≡ fit_number f (value u a)
-  stays_value f (sum c none) n e = absurd (cc)
-  stays_value f (sum c (more a k none)) n e =
-      let zeroes : c ≡ 0 = grind (arith, nat_tests) in
-      let ones : k ≡ 1 = grind (arith, nat_tests) in
-      let short : atom_bits a ≤ kept_bits f = grind (arith, nat_tests) in
-      let v : value u (sum c (more a k none)) ≡ value_of_atom u a =
-      ap₂ (λ m n. value u (sum m (more a n none))) zeroes ones ∙ alone_value a (atom_below a n.1.0) in
-      let wide : 2 ^ atom_bits a ≤ 2 ^ kept_bits f = pow_mono {i = atom_bits a} {j = kept_bits f} short in
-      let below : value_of_atom u a < 2 ^ kept_bits f = omega (arith, atom_bits_below a n.1.0) in
-      rw v (sym (fit_number_same f (value_of_atom u a) below))
-  stays_value f (sum c (more a k (more b l ys))) n e = absurd (cc)
-
-  -- a fit has its value, whatever is constant
-  fit_by_value : (f : Fit) (m : Option ℕ) (a : PlainSum) → IsNormal a → constant_alone a ≡ m → value u (fit_by f m a) ≡ fit_number f (value u a)
-  fit_by_value f (Some c) a n e = number_value _ (fit_number_below f c) ∙ ap (fit_number f) (sym (constant_value a c n e))
-  fit_by_value f None a n e =
-      (elim (stays f a) as (λ t. stays f a ≡ t → value u (if t then a else alone (fitted f a)) ≡ fit_number f (value u a)) [
-        | true ↦ λ h. stays_value f a n h
-        | false ↦ λ h. alone_value (fitted f a) (fit_number_below f (value u a))
-      ]) refl
-
-  -- a fit has the value of its argument, fitted
-  pub fit_value : (f : Fit) (a : PlainSum) → IsNormal a → value u (fit f a) ≡ fit_number f (value u a)
-  unfolding fit
-  fit_value f a n = fit_by_value f (constant_alone a) a n refl
-
-  -- an atom of a pair has the value of the pair
-  paired_value : (p : Pair) (a b : PlainSum) → value u (alone (paired p a b)) ≡ pair_number p (value u a) (value u b)
-  paired_value p a b = alone_value (paired p a b) (pair_number_below p _ _ (value_below a) (value_below b))
-
-  -- so has either result where the equal terms have that value
-  either_value : (p : Pair) (a b c : PlainSum) → (a ≡ b → value u c ≡ pair_number p (value u a) (value u b))
-      → value u (if is_eq (sum_cmp a b) then c else alone (paired p a b)) ≡ pair_number p (value u a) (value u b)
-  either_value p a b c same =
-      (elim (is_eq (sum_cmp a b)) as (λ t. is_eq (sum_cmp a b) ≡ t → value u (if t then c else alone (paired p a b)) ≡ pair_number p (value u a) (value u b)) [
-        | true ↦ λ h. same (sum_same a b (equal_from _ h))
-        | false ↦ λ h. paired_value p a b
-      ]) refl
-
-  -- a pair without a constant has its value
-  pair_alone_value : (p : Pair) (a b : PlainSum) → value u (pair_alone p a b) ≡ pair_number p (value u a) (value u b)
-  pair_alone_value And a b = either_value And a b a (λ e. sym (ap (λ c. bit_and (value u a) (value u c)) (sym e) ∙ and_self (value u a)))
-  pair_alone_value Or a b = either_value Or a b a (λ e. sym (ap (λ c. bit_or (value u a) (value u c)) (sym e) ∙ or_self (value u a)))
-  pair_alone_value Xor a b = either_value Xor a b (sum 0 none) (λ e. sym (ap (λ c. bit_xor (value u a) (value u c)) (sym e) ∙ xor_self (value u a)))
-  pair_alone_value Mul a b = paired_value Mul a b
-  pair_alone_value Shr a b = paired_value Shr a b
-  pair_alone_value Sar a b = paired_value Sar a b
-
-  -- a multiple has the multiple of the value
-  pub times_value : (x : ℕ) (a : PlainSum) → value u (times x a) ≡ x * value u a % 2 ^ 64
-  times_value x a =
-      plus_times_value u (sum 0 none) x a ∙ ap (λ n. n % 2 ^ 64) (let e : 0 + x * value u a ≡ x * value u a = omega arith in e)
-
-  -- the constant is the first of the pair, or the second
-  left_value : (p : Pair) (x : ℕ) (a b : PlainSum) → value u a ≡ x → value u (pair_scaled p x b a b) ≡ pair_number p (value u a) (value u b)
-  left_value And x a b e = pair_alone_value And a b
-  left_value Or x a b e = pair_alone_value Or a b
-  left_value Xor x a b e = pair_alone_value Xor a b
-  left_value Mul x a b e = times_value x b ∙ ap (λ n. n * value u b % 2 ^ 64) (sym e)
-  left_value Shr x a b e = pair_alone_value Shr a b
-  left_value Sar x a b e = pair_alone_value Sar a b
-
-  -- the constant is the second of the pair
-  right_value : (p : Pair) (y : ℕ) (a b : PlainSum) → value u b ≡ y → value u (pair_scaled p y a a b) ≡ pair_number p (value u a) (value u b)
-  right_value And y a b e = pair_alone_value And a b
-  right_value Or y a b e = pair_alone_value Or a b
-  right_value Xor y a b e = pair_alone_value Xor a b
-  right_value Mul y a b e = times_value y a ∙ ap (λ n. n % 2 ^ 64) (mul_comm y (value u a) ∙ ap (λ n. value u a * n) (sym e))
-  right_value Shr y a b e = pair_alone_value Shr a b
-  right_value Sar y a b e = pair_alone_value Sar a b
-
-  -- each pair has its value, whatever is constant
-  pair_by_value : (p : Pair) (m n : Option ℕ) (a b : PlainSum) → IsNormal a → IsNormal b → constant_alone a ≡ m → constant_alone b ≡ n → value u (pair_by p m n a b) ≡ pair_number p (value u a) (value u b)
-  pair_by_value p (Some x) (Some y) a b na nb e f =
-      number_value _ (pair_number_below p x y (constant_below a x na e) (constant_below b y nb f))
-      ∙ ap₂ (pair_number p) (sym (constant_value a x na e)) (sym (constant_value b y nb f))
-  pair_by_value p (Some x) None a b na nb e f = left_value p x a b (constant_value a x na e)
-  pair_by_value p None (Some y) a b na nb e f = right_value p y a b (constant_value b y nb f)
-  pair_by_value p None None a b na nb e f = pair_alone_value p a b
-
-  -- a pair has the value of its arguments, combined
-  pub pair_value : (p : Pair) (a b : PlainSum) → IsNormal a → IsNormal b → value u (pair p a b) ≡ pair_number p (value u a) (value u b)
-  unfolding pair
-  pair_value p a b na nb = pair_by_value p (constant_alone a) (constant_alone b) a b na nb refl refl

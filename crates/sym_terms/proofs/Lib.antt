@@ -4,7 +4,3 @@ pub mod MergeLemmas
 pub mod SumLemmas
 pub mod AtomLemmas
 pub mod OffsetLemmas
-pub mod LooseLemmas
-pub mod CoefficientLemmas
-pub mod MentionLemmas
-pub mod LawLemmas

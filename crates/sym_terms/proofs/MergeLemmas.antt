@@ -5,19 +5,19 @@ use Rattle.std.proofs.Math.Nat.{add-mod-mod}
 use Rattle.std.specs.declared.cmp.Ordering.{Ordering}
 use Rattle.std.specs.declared.cmp.Ordering.TheVariants.{Less, Equal, Greater}
 use Rattle.sym_terms.specs.declared.sum.Atom.{Atom}
-use Rattle.sym_terms.specs.Plain.{Pieces, none, more}
+use Rattle.sym_terms.specs.Plain.{Summands, none, more}
 use Rattle.sym_terms.specs.View.{plain, pieces, piece_or_none, multiples}
 use Rattle.sym_terms.specs.Order.{atom_cmp}
 use Rattle.sym_terms.specs.Normal.{joined, plus_times_pieces}
 use Rattle.sym_terms.proofs.PieceLemmas.{pieces_at}
 
 -- the written pieces, and then the rest
-abbrev pub front : List (Atom × ℕ) → Pieces → Pieces
+abbrev pub front : List (Atom × ℕ) → Summands → Summands
 front [] rest = rest
 front (x ∷ xs) rest = more (plain x.0) x.1 (front xs rest)
 
 -- written pieces in two parts
-front-append : (xs ys : List (Atom × ℕ)) (rest : Pieces) → front (xs ++ ys) rest ≡ front xs (front ys rest)
+front-append : (xs ys : List (Atom × ℕ)) (rest : Summands) → front (xs ++ ys) rest ≡ front xs (front ys rest)
 front-append [] ys rest = refl
 front-append (x ∷ xs) ys rest = ap (more (plain x.0) x.1) (front-append xs ys rest)
 
@@ -27,23 +27,23 @@ front-none [] = refl
 front-none (x ∷ xs) = ap (more (plain x.0) x.1) (front-none xs)
 
 -- a piece that was written, or left out where its coefficient is 0, is the first of the rest
-front-piece : (out : List (Atom × ℕ)) (a : Atom) (k : ℕ) (rest : Pieces)
+front-piece : (out : List (Atom × ℕ)) (a : Atom) (k : ℕ) (rest : Summands)
     → front (out ++ piece_or_none a k) rest ≡ front out (joined (plain a) k rest)
 front-piece out a zero rest = front-append out [] rest
 front-piece out a (suc k) rest = front-append out _ rest
 
 module _ (m : ℕ) (xs ys : List (Atom × ℕ)) (i j : ℕ) (x y : Atom × ℕ) (at_x : x ≡ slice_index_or xs i x) (in_x : i < length xs) (at_y : y ≡ slice_index_or ys j y) (in_y : j < length ys) where
   -- the pieces after the first of the left
-  abbrev left : Pieces
+  abbrev left : Summands
   left = pieces (drop (i + 1) xs)
 
   -- the pieces after the first of the right
-  abbrev right : Pieces
+  abbrev right : Summands
   right = pieces (drop (j + 1) ys)
 
   -- the merge from here on, as the order of the two atoms has it
-  abbrev chosen : Ordering → Pieces
-  chosen o = elim o as (λ o. Pieces) [
+  abbrev chosen : Ordering → Summands
+  chosen o = elim o as (λ o. Summands) [
     | Less ↦ more (plain x.0) x.1 (plus_times_pieces left m (more (plain y.0) y.1 right))
     | Equal ↦ joined (plain x.0) ((x.1 + m * y.1) % 2 ^ 64) (plus_times_pieces left m right)
     | Greater ↦ joined (plain y.0) (m * y.1 % 2 ^ 64) (plus_times_pieces (more (plain x.0) x.1 left) m right)
@@ -105,7 +105,7 @@ ended m (x ∷ xs) [] h = sym (ap pieces (append-nil (x ∷ xs)))
 ended m (x ∷ xs) (y ∷ ys) (inl e) = absurd (cc)
 ended m (x ∷ xs) (y ∷ ys) (inr e) = absurd (cc)
 
--- what is left after the loop is written behind
+-- what is left after the loop is written after it
 pub written : (m : ℕ) (xs ys out out2 out3 : List (Atom × ℕ)) (i j : ℕ)
     → out2 ≡ out ++ take (length xs - i) (drop i xs) → out3 ≡ out2 ++ multiples m (take (length ys - j) (drop j ys)) → (length xs ≤ i) ⊎ (length ys ≤ j)
     → pieces out3 ≡ front out (plus_times_pieces (pieces (drop i xs)) m (pieces (drop j ys)))

@@ -6,11 +6,11 @@ use Rattle.std.specs.declared.cmp.Ordering.TheVariants.{Less, Equal, Greater}
 use Rattle.std.specs.Ordering.{ordering_then, is_ne, nat_cmp, MatchOrdering}
 use Rattle.std.specs.Cmp.{nat_cmp_is}
 use Rattle.sym_terms.specs.declared.sum.Atom.{Atom}
-use Rattle.sym_terms.specs.Plain.{sum, none, more, constant_alone}
+use Rattle.sym_terms.specs.Plain.{sum, none, more, constant_alone, symbol_alone}
 use Rattle.sym_terms.specs.Order.{pieces_cmp, atom_cmp}
 use Rattle.sym_terms.specs.View.{plain, pieces}
 use Rattle.sym_terms.specs.declared.kinds.Fit.{Fit}
-use Rattle.sym_terms.specs.Normal.{stays}
+use Rattle.sym_terms.specs.Normal.{fit_is_identity}
 
 -- the pieces from an index on are the one there and those after it
 pub pieces_at : (xs : List (Atom × ℕ)) (i : ℕ) (x : Atom × ℕ)
@@ -86,7 +86,13 @@ module _ (xs ys : List (Atom × ℕ)) (i : ℕ) (x y : Atom × ℕ) (at_x : x �
   deferred_at o e h = sym (defers (atom_cmp (plain x.0) (plain y.0)) (nat_cmp x.1 y.1) _ (ap is_ne (sym e) ∙ h)) ∙ sym heads
 
 -- two pieces don't stay under a fit
-pub two_pieces : (f : Fit) (c : ℕ) (xs : List (Atom × ℕ)) → 2 ≤ length xs → false ≡ stays f (sum c (pieces xs))
+pub two_pieces : (f : Fit) (c : ℕ) (xs : List (Atom × ℕ)) → 2 ≤ length xs → false ≡ fit_is_identity f (sum c (pieces xs))
 two_pieces f c [] h = refl
 two_pieces f c (x ∷ []) h = absurd (omega arith)
 two_pieces f c (x ∷ y ∷ ys) h = refl
+
+-- two pieces are no symbol
+pub two_atoms : (c : ℕ) (xs : List (Atom × ℕ)) → 2 ≤ length xs → None ≡ symbol_alone (sum c (pieces xs))
+two_atoms c [] h = absurd (omega arith)
+two_atoms c (x ∷ []) h = absurd (omega arith)
+two_atoms c (x ∷ y ∷ xs) h = refl

@@ -1,4 +1,5 @@
--- What list of numbers stands for a term: the logic keeps it so, and lists order as their terms do.
+-- What list of numbers stands for a term, as the logic keeps it; lists order as their terms do. No clause cites this
+-- file: it stands here since the types' models do.
 use Rattle.std.specs.Prelude.{◌≡◌, ℕ, zero, suc, List, [], ◌∷◌}
 use Rattle.std.specs.declared.cmp.Ordering.{Ordering}
 use Rattle.std.specs.declared.cmp.Ordering.TheVariants.{Less, Equal, Greater}
@@ -14,7 +15,7 @@ use Rattle.sym_terms.specs.declared.kinds.Fit.{Fit}
 use Rattle.sym_terms.specs.declared.kinds.Fit.TheVariants.{Zx8, Zx16, Zx32, Sx8, Sx16, Sx32}
 use Rattle.sym_terms.specs.declared.kinds.Pair.{Pair}
 use Rattle.sym_terms.specs.declared.kinds.Pair.TheVariants.{And, Or, Xor, Mul, Shr, Sar}
-use Rattle.sym_terms.specs.Plain.{PlainSum, sum, Pieces, none, more, PlainAtom, symbol, fitted, paired}
+use Rattle.sym_terms.specs.Plain.{PlainSum, sum, Summands, none, more, PlainAtom, symbol, fitted, paired}
 use Rattle.sym_terms.specs.Order.{sym_rank, sym_number, fit_rank, pair_rank, sym_cmp, sum_cmp, pieces_cmp, atom_cmp}
 
 -- the numbers of a term, of pieces and of an atom, in front of a rest; an end is 0, an atom is not
@@ -22,7 +23,7 @@ abbrev mutual
   pub sum_code : PlainSum → List ℕ → List ℕ
   sum_code (sum c xs) rest = c ∷ pieces_code xs rest
 
-  pub pieces_code : Pieces → List ℕ → List ℕ
+  pub pieces_code : Summands → List ℕ → List ℕ
   pieces_code none rest = 0 ∷ rest
   pieces_code (more a k xs) rest = atom_code a (k ∷ pieces_code xs rest)
 
@@ -48,7 +49,7 @@ mutual
   sum_lex (sum c xs) (sum d ys) r s =
       ap (ordering_then (nat_cmp c d)) (pieces_lex xs ys r s) ∙ sym (then_assoc (nat_cmp c d) (pieces_cmp xs ys) (lex r s))
 
-  pieces_lex : (xs ys : Pieces) (r s : List ℕ)
+  pieces_lex : (xs ys : Summands) (r s : List ℕ)
       → slice_cmp nat_cmp (pieces_code xs r) (pieces_code ys s) ≡ ordering_then (pieces_cmp xs ys) (slice_cmp nat_cmp r s)
   pieces_lex none none r s = refl
   pieces_lex none (more (symbol t) l ys) r s = refl
@@ -161,7 +162,7 @@ mutual
       let both = then_equal (nat_cmp c d) (pieces_cmp xs ys) e in
       λ i. sum (nat_cmp-IsAntisymmetric c d both.0 i) (pieces_same xs ys both.1 i)
 
-  pub pieces_same : (xs ys : Pieces) → pieces_cmp xs ys ≡ Equal → xs ≡ ys
+  pub pieces_same : (xs ys : Summands) → pieces_cmp xs ys ≡ Equal → xs ≡ ys
   pieces_same none none e = refl
   pieces_same none (more b l ys) e = absurd (cc)
   pieces_same (more a k xs) none e = absurd (cc)

@@ -1,4 +1,5 @@
--- What makes recursion down a term end: each argument of an atom has fewer nodes than the term.
+-- What makes recursion down a term end: each argument of an atom has fewer nodes than the term. No clause cites this
+-- file.
 use Rattle.std.specs.Prelude.{ℕ, ◌≤◌, List, [], ◌∷◌}
 use Rattle.std.proofs.Common.{arith}
 use Rattle.sym_terms.specs.declared.sum.Atom.{Atom}

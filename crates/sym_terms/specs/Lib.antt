@@ -1,3 +1,4 @@
+pub mod Limits
 pub mod Plain
 pub mod View
 pub mod Nodes
@@ -9,4 +10,3 @@ pub mod Numbers
 pub mod Value
 pub mod Normal
 pub mod Loose
-pub mod Laws

@@ -3,14 +3,14 @@ use Rattle.std.specs.Prelude.{Bool, false, ◌||◌}
 use Rattle.std.specs.Ordering.{is_eq}
 use Rattle.sym_terms.specs.declared.kinds.Sym.{Sym}
 use Rattle.sym_terms.specs.Order.{sym_cmp}
-use Rattle.sym_terms.specs.Plain.{PlainSum, sum, Pieces, none, more, PlainAtom, symbol, fitted, paired}
+use Rattle.sym_terms.specs.Plain.{PlainSum, sum, Summands, none, more, PlainAtom, symbol, fitted, paired}
 
 -- whether a symbol stands in a term, in pieces and in one atom
 abbrev mutual
   pub mentions : Sym → PlainSum → Bool
   mentions s (sum c xs) = mentions_in_pieces s xs
 
-  pub mentions_in_pieces : Sym → Pieces → Bool
+  pub mentions_in_pieces : Sym → Summands → Bool
   mentions_in_pieces s none = false
   mentions_in_pieces s (more a k xs) = mentions_in_atom s a || mentions_in_pieces s xs
 

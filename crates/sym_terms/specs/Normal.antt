@@ -6,23 +6,24 @@ use Rattle.sym_terms.specs.declared.kinds.Fit.{Fit}
 use Rattle.sym_terms.specs.declared.kinds.Fit.TheVariants.{Zx8, Zx16, Zx32, Sx8, Sx16, Sx32}
 use Rattle.sym_terms.specs.declared.kinds.Pair.{Pair}
 use Rattle.sym_terms.specs.declared.kinds.Pair.TheVariants.{And, Or, Xor, Mul, Shr, Sar}
+use Rattle.sym_terms.specs.Limits.{most_nodes}
 use Rattle.sym_terms.specs.Numbers.{fit_number, pair_number}
-use Rattle.sym_terms.specs.Plain.{PlainSum, sum, Pieces, none, more, PlainAtom, symbol, fitted, paired, constant_alone, alone, IsSymbol}
+use Rattle.sym_terms.specs.Plain.{PlainSum, sum, Summands, none, more, PlainAtom, symbol, fitted, paired, constant_alone, single_atom, IsSymbol}
 use Rattle.sym_terms.specs.Nodes.{nodes}
 use Rattle.sym_terms.specs.Order.{atom_cmp, sum_cmp}
 
 -- a piece in front of others, and nothing where its coefficient is 0
-abbrev pub joined : PlainAtom → ℕ → Pieces → Pieces
+abbrev pub joined : PlainAtom → ℕ → Summands → Summands
 joined a zero xs = xs
 joined a (suc k) xs = more a (suc k) xs
 
 -- ascending pieces xs + m * ys: an atom of both has the sum of its coefficients, and none has 0
-abbrev pub plus_times_pieces : Pieces → ℕ → Pieces → Pieces
+abbrev pub plus_times_pieces : Summands → ℕ → Summands → Summands
 plus_times_pieces none m none = none
 plus_times_pieces none m (more b l ys) = joined b (m * l % 2 ^ 64) (plus_times_pieces none m ys)
 plus_times_pieces (more a k xs) m none = more a k xs
 plus_times_pieces (more a k xs) m (more b l ys) =
-    elim (atom_cmp a b) as (λ o. Pieces) [
+    elim (atom_cmp a b) as (λ o. Summands) [
       | Less ↦ more a k (plus_times_pieces xs m (more b l ys))
       | Equal ↦ joined a ((k + m * l) % 2 ^ 64) (plus_times_pieces xs m ys)
       | Greater ↦ joined b (m * l % 2 ^ 64) (plus_times_pieces (more a k xs) m ys)
@@ -69,15 +70,15 @@ atom_bits (fitted f a) = fit_bits f
 atom_bits (paired p a b) = 64
 
 -- a term stays as it is under a fit where it is one fit by zeros that is no wider than what is kept
-abbrev pub stays : Fit → PlainSum → Bool
-stays f (sum c none) = false
-stays f (sum c (more a k none)) = (c == 0) && (k == 1) && nat_le (atom_bits a) (kept_bits f)
-stays f (sum c (more a k (more b l ys))) = false
+abbrev pub fit_is_identity : Fit → PlainSum → Bool
+fit_is_identity f (sum c none) = false
+fit_is_identity f (sum c (more a k none)) = (c == 0) && (k == 1) && nat_le (atom_bits a) (kept_bits f)
+fit_is_identity f (sum c (more a k (more b l ys))) = false
 
 -- a fit of a constant is a constant; else the term stays, or is one atom
 abbrev pub fit_by : Fit → Option ℕ → PlainSum → PlainSum
 fit_by f (Some c) a = sum (fit_number f c) none
-fit_by f None a = if stays f a then a else alone (fitted f a)
+fit_by f None a = if fit_is_identity f a then a else single_atom (fitted f a)
 
 -- the fit of a term
 unfoldable pub fit : Fit → PlainSum → PlainSum
@@ -85,12 +86,12 @@ fit f a = fit_by f (constant_alone a) a
 
 -- one atom, but for the and, or and xor of a term with itself
 abbrev pub pair_alone : Pair → PlainSum → PlainSum → PlainSum
-pair_alone And a b = if is_eq (sum_cmp a b) then a else alone (paired And a b)
-pair_alone Or a b = if is_eq (sum_cmp a b) then a else alone (paired Or a b)
-pair_alone Xor a b = if is_eq (sum_cmp a b) then sum 0 none else alone (paired Xor a b)
-pair_alone Mul a b = alone (paired Mul a b)
-pair_alone Shr a b = alone (paired Shr a b)
-pair_alone Sar a b = alone (paired Sar a b)
+pair_alone And a b = if is_eq (sum_cmp a b) then a else single_atom (paired And a b)
+pair_alone Or a b = if is_eq (sum_cmp a b) then a else single_atom (paired Or a b)
+pair_alone Xor a b = if is_eq (sum_cmp a b) then sum 0 none else single_atom (paired Xor a b)
+pair_alone Mul a b = single_atom (paired Mul a b)
+pair_alone Shr a b = single_atom (paired Shr a b)
+pair_alone Sar a b = single_atom (paired Sar a b)
 
 -- a product with a constant is a multiple, and every other pair is as above
 abbrev pub pair_scaled : Pair → ℕ → PlainSum → PlainSum → PlainSum → PlainSum
@@ -113,7 +114,7 @@ unfoldable pub pair : Pair → PlainSum → PlainSum → PlainSum
 pair p a b = pair_by p (constant_alone a) (constant_alone b) a b
 
 -- the first atom, if there is one, comes after this one
-abbrev pub IsBefore : PlainAtom → Pieces → Type 0
+abbrev pub IsBefore : PlainAtom → Summands → Type 0
 IsBefore a none = Unit {0}
 IsBefore a (more b l ys) = atom_cmp a b ≡ Less
 
@@ -123,20 +124,20 @@ abbrev mutual
   pub IsNormal : PlainSum → Type 0
   IsNormal (sum c xs) = (c < 2 ^ 64) × AreNormal xs
 
-  pub AreNormal : Pieces → Type 0
+  pub AreNormal : Summands → Type 0
   AreNormal none = Unit {0}
   AreNormal (more a k xs) = IsNormalAtom a × (0 < k) × (k < 2 ^ 64) × IsBefore a xs × AreNormal xs
 
   pub IsNormalAtom : PlainAtom → Type 0
   IsNormalAtom (symbol s) = IsSymbol s
-  IsNormalAtom (fitted f a) = IsNormal a × (fit f a ≡ alone (fitted f a))
-  IsNormalAtom (paired p a b) = IsNormal a × IsNormal b × (pair p a b ≡ alone (paired p a b))
+  IsNormalAtom (fitted f a) = IsNormal a × (fit f a ≡ single_atom (fitted f a))
+  IsNormalAtom (paired p a b) = IsNormal a × IsNormal b × (pair p a b ≡ single_atom (paired p a b))
 
 -- what every term of the program is
 pub record IsTerm (a : PlainSum) : Type 0 where
   pub normal : IsNormal a
-  pub small : nodes a ≤ 32
+  pub small : nodes a ≤ most_nodes
 
--- a term, and None where it has over 32 nodes
-unfoldable pub within : PlainSum → Option PlainSum
-within a = if nat_le (nodes a) 32 then Some a else None
+-- a term, and None where it has more nodes than a term may have
+unfoldable pub within_node_limit : PlainSum → Option PlainSum
+within_node_limit a = if nat_le (nodes a) most_nodes then Some a else None

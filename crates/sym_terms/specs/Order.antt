@@ -9,7 +9,7 @@ use Rattle.sym_terms.specs.declared.kinds.Fit.{Fit}
 use Rattle.sym_terms.specs.declared.kinds.Fit.TheVariants.{Zx8, Zx16, Zx32, Sx8, Sx16, Sx32}
 use Rattle.sym_terms.specs.declared.kinds.Pair.{Pair}
 use Rattle.sym_terms.specs.declared.kinds.Pair.TheVariants.{And, Or, Xor, Mul, Shr, Sar}
-use Rattle.sym_terms.specs.Plain.{PlainSum, sum, Pieces, none, more, PlainAtom, symbol, fitted, paired}
+use Rattle.sym_terms.specs.Plain.{PlainSum, sum, Summands, none, more, PlainAtom, symbol, fitted, paired}
 
 -- entry registers come first, then the return address, the FS base and named values
 abbrev pub sym_rank : Sym → ℕ
@@ -52,7 +52,7 @@ abbrev mutual
   pub sum_cmp : PlainSum → PlainSum → Ordering
   sum_cmp (sum c xs) (sum d ys) = ordering_then (nat_cmp c d) (pieces_cmp xs ys)
 
-  pub pieces_cmp : Pieces → Pieces → Ordering
+  pub pieces_cmp : Summands → Summands → Ordering
   pieces_cmp none none = Equal
   pieces_cmp none (more b l ys) = Less
   pieces_cmp (more a k xs) none = Greater

@@ -3,7 +3,7 @@ use Rattle.std.specs.Prelude.{ℕ, ◌+◌, ◌*◌, ◌%◌, ◌^◌, ◌<◌}
 use Rattle.sym_terms.specs.declared.kinds.Sym.{Sym}
 use Rattle.sym_terms.specs.declared.kinds.Sym.TheVariants.{Entry, Ra, FsBase, Named}
 use Rattle.sym_terms.specs.Numbers.{fit_number, pair_number}
-use Rattle.sym_terms.specs.Plain.{PlainSum, sum, Pieces, none, more, PlainAtom, symbol, fitted, paired}
+use Rattle.sym_terms.specs.Plain.{PlainSum, sum, Summands, none, more, PlainAtom, symbol, fitted, paired}
 
 -- the values of the 16 entry registers by number, of the return address, the FS base, and of the
 -- names by address, 0 where an address names nothing
@@ -32,7 +32,7 @@ abbrev mutual
   pub value : Valuation → PlainSum → ℕ
   value u (sum c xs) = (c + value_of_pieces u xs) % 2 ^ 64
 
-  pub value_of_pieces : Valuation → Pieces → ℕ
+  pub value_of_pieces : Valuation → Summands → ℕ
   value_of_pieces u none = 0
   value_of_pieces u (more a k xs) = k * value_of_atom u a + value_of_pieces u xs
 

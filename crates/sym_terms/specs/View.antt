@@ -2,7 +2,7 @@
 use Rattle.std.specs.Prelude.{ℕ, zero, suc, ◌*◌, ◌%◌, ◌^◌, List, [], ◌∷◌, ◌++◌}
 use Rattle.sym_terms.specs.declared.sum.Atom.{Atom}
 use Rattle.sym_terms.specs.declared.sum.Atom.TheVariants.{Sym, Fit, Pair}
-use Rattle.sym_terms.specs.Plain.{Pieces, none, more, PlainAtom, symbol, fitted, paired}
+use Rattle.sym_terms.specs.Plain.{Summands, none, more, PlainAtom, symbol, fitted, paired}
 
 -- an atom, whose arguments are seen as plain data already
 abbrev pub plain : Atom → PlainAtom
@@ -11,7 +11,7 @@ plain (Fit f a) = fitted f a
 plain (Pair p a b) = paired p a b
 
 -- a list of atoms with their coefficients
-abbrev pub pieces : List (Atom × ℕ) → Pieces
+abbrev pub pieces : List (Atom × ℕ) → Summands
 pieces [] = none
 pieces (x ∷ xs) = more (plain x.0) x.1 (pieces xs)
 

@@ -1,18 +1,18 @@
 ghost use Rattle.std.specs.Prelude.{◌≡◌, IfOk};
-ghost use Rattle.sym_terms.specs.Plain.{alone};
+ghost use Rattle.sym_terms.specs.Plain.{single_atom};
 ghost use Rattle.sym_terms.specs.View.{plain};
-ghost use Rattle.sym_terms.specs.Normal.{fit_bits, kept_bits, atom_bits, stays, fit, pair, pair_alone};
+ghost use Rattle.sym_terms.specs.Normal.{fit_bits, kept_bits, atom_bits, fit_is_identity, fit, pair, pair_alone};
 
 use crate::kinds::{Fit, Pair};
 use crate::linear::add_scaled;
-use crate::memory::NoMemory;
 use crate::numbers::{fit_number, pair_number};
 use crate::sum::{Atom, Sum};
+use no_memory::NoMemory;
 use sqlite_items::{Boxed, Items};
 use std::alloc::{AllocError, Global};
 
 pub fn atom_alone(alloc: Global, atom: Atom) -> Result<Sum, NoMemory>
-    ensures { IfOk result (λ s. s ≡ alone (plain atom)) }
+    ensures { IfOk result (λ s. s ≡ single_atom (plain atom)) }
 {
     let atoms = Vec::from_array(alloc, [(atom, 1)]).map_err(AllocError::from)?;
     Ok(Sum {
@@ -37,7 +37,7 @@ pub fn fit_sum(alloc: Global, kind: Fit, argument: &Sum) -> Result<Sum, NoMemory
 }
 
 fn is_kept(kind: Fit, argument: &Sum) -> bool
-    ensures { result ≡ stays kind argument.now }
+    ensures { result ≡ fit_is_identity kind argument.now }
 {
     match argument.atoms.as_slice() {
         [(atom, coefficient)] => {

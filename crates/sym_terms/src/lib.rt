@@ -5,17 +5,12 @@
 
 mod atoms;
 mod kinds;
-mod laws;
 mod linear;
-mod memory;
 mod numbers;
 mod sum;
 mod term;
-#[cfg(test)]
-mod tests;
 
 pub use kinds::{Fit, Pair, Sym};
-pub use laws::term_laws;
-pub use memory::NoMemory;
+pub use no_memory::NoMemory;
 pub use sum::{Atom, Sum};
-pub use term::Term;
+pub use term::{MOST_NODES, Term, copy_known};

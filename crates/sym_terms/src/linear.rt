@@ -1,9 +1,10 @@
 ghost use Rattle.std.specs.Prelude.{◌≡◌, ◌++◌, IfOk, OnOk};
 ghost use Rattle.sym_terms.specs.View.{pieces, piece_or_none, multiples};
-ghost use Rattle.sym_terms.specs.Normal.{plus_times, plus_times_pieces};
+ghost use Rattle.sym_terms.specs.Plain.{sum, none};
+ghost use Rattle.sym_terms.specs.Normal.{plus, plus_times, plus_times_pieces};
 
-use crate::memory::NoMemory;
-use crate::sum::{Atom, Sum};
+use crate::sum::{Atom, Sum, with_room};
+use no_memory::NoMemory;
 use sqlite_items::Items;
 use std::alloc::Global;
 use std::cmp::Ordering;
@@ -22,6 +23,23 @@ pub fn add_scaled(alloc: Global, left: &Sum, factor: u64, right: &Sum) -> Result
     })
 }
 
+impl Sum {
+    /// `self + constant`, with the same atoms.
+    #[tactic(auto, unfolding(crate::specs::Normal::plus_times), using(crate::proofs::SumLemmas::plus_nothing))]
+    pub(crate) fn add_constant(self, constant: u64) -> Sum
+        ensures { result ≡ plus self (sum constant none) }
+    {
+        let Sum {
+            constant: own,
+            atoms,
+        } = self;
+        Sum {
+            constant: own.wrapping_add(constant),
+            atoms,
+        }
+    }
+}
+
 fn merge(
     alloc: Global,
     left: &[(Atom, u64)],
@@ -30,7 +48,7 @@ fn merge(
 ) -> Result<Items<(Atom, u64)>, NoMemory>
     ensures { IfOk result (λ out. pieces out ≡ plus_times_pieces (pieces left.now) factor (pieces right.now)) }
 {
-    let mut out = Items::new(alloc);
+    let mut out = with_room(alloc, left.len().saturating_add(right.len()))?;
     let mut i = 0;
     let mut j = 0;
     while i < left.len() && j < right.len() {

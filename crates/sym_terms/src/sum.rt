@@ -1,12 +1,12 @@
-ghost use Rattle.std.specs.Prelude.{◌≡◌, ◌<◌, ◌^◌, IfOk};
-ghost use Rattle.sym_terms.specs.Plain.{sum, none, constant_alone};
+ghost use Rattle.std.specs.Prelude.{◌≡◌, ◌<◌, ◌^◌, [], IfOk};
+ghost use Rattle.sym_terms.specs.Plain.{sum, none, constant_alone, symbol_alone, symbol_of};
 ghost use Rattle.sym_terms.specs.View.{plain, pieces};
 ghost use Rattle.sym_terms.specs.Nodes.{nodes, nodes_of_pieces, nodes_of_atom};
 ghost use Rattle.sym_terms.specs.Order.{sum_cmp, pieces_cmp, atom_cmp};
 ghost use Rattle.sym_terms.specs.Mentions.{mentions, mentions_in_pieces, mentions_in_atom};
 
 use crate::kinds::{Fit, Pair, Sym};
-use crate::memory::NoMemory;
+use no_memory::NoMemory;
 use sqlite_items::{Boxed, Items};
 use std::alloc::Global;
 use std::cmp::Ordering;
@@ -72,6 +72,16 @@ impl Sum {
         }
     }
 
+    /// The symbol, where the sum is that symbol alone: one atom, with coefficient 1 and constant 0.
+    pub fn as_symbol(&self) -> Option<Sym>
+        ensures { result ≡ symbol_alone self.now }
+    {
+        match self.atoms.as_slice() {
+            [(atom, coefficient)] if self.constant == 0 && *coefficient == 1 => atom.as_symbol(),
+            _ => None,
+        }
+    }
+
     #[cycle(size)]
     pub(crate) fn size(&self) -> u32
         requires { nodes self.now < 2 ^ 32 }
@@ -112,6 +122,15 @@ impl Sum {
 }
 
 impl Atom {
+    fn as_symbol(&self) -> Option<Sym>
+        ensures { result ≡ symbol_of (plain self.now) }
+    {
+        match self {
+            Atom::Sym(symbol) => Some(*symbol),
+            Atom::Fit(_, _) | Atom::Pair(_, _, _) => None,
+        }
+    }
+
     #[cycle(size)]
     fn size(&self) -> u32
         requires { nodes_of_atom (plain self.now) < 2 ^ 32 }
@@ -228,9 +247,17 @@ pub(crate) fn compare_pieces(left: &[(Atom, u64)], right: &[(Atom, u64)]) -> Ord
 fn copy_pieces(alloc: Global, atoms: &[(Atom, u64)]) -> Result<Items<(Atom, u64)>, NoMemory>
     ensures { IfOk result (λ copies. copies ≡ atoms.now) }
 {
-    let mut copies = Items::new(alloc);
+    let mut copies = with_room(alloc, atoms.len())?;
     for (atom, coefficient) in atoms {
         copies.push((atom.copy(alloc)?, *coefficient))?;
     }
     Ok(copies)
+}
+
+/// No pieces, with room for this many.
+pub(crate) fn with_room(alloc: Global, room: usize) -> Result<Items<(Atom, u64)>, NoMemory>
+    ensures { IfOk result (λ pieces. pieces ≡ []) }
+{
+    let pieces = Vec::with_capacity(alloc, room)?;
+    Ok(Items::from_vec(pieces))
 }

@@ -1,21 +1,22 @@
 ghost use Rattle.std.specs.Prelude.{◌≡◌, ◌<◌, ◌^◌, IfOk};
-ghost use Rattle.sym_terms.specs.Plain.{sum, none, symbol, constant_alone, alone, IsSymbol};
+ghost use Rattle.std.specs.Option.{option_copied};
+ghost use Rattle.sym_terms.specs.Plain.{sum, none, symbol, constant_alone, symbol_alone, single_atom, IsSymbol};
 ghost use Rattle.sym_terms.specs.Nodes.{nodes};
 ghost use Rattle.sym_terms.specs.Order.{sum_cmp};
 ghost use Rattle.sym_terms.specs.Mentions.{mentions};
-ghost use Rattle.sym_terms.specs.Normal.{plus, minus, times, fit, pair, within, IsNormal, IsTerm};
+ghost use Rattle.sym_terms.specs.Normal.{plus, minus, times, fit, pair, within_node_limit, IsNormal, IsTerm};
 
 use crate::atoms::{atom_alone, fit_sum, pair_sums};
 use crate::kinds::{Fit, Pair, Sym};
 use crate::linear::add_scaled;
-use crate::memory::NoMemory;
 use crate::sum::{Atom, Sum, compare_pieces};
+use no_memory::NoMemory;
 use std::alloc::Global;
 use std::cmp::Ordering;
 use std::marker::Model;
 
 /// The most nodes of a term: 1 for the term, and for each atom 1 and the nodes of its arguments.
-const MOST_NODES: u32 = 32;
+pub const MOST_NODES: u32 = 32;
 
 /// A symbolic term: a sum in normal form at every level, of at most 32 nodes. Contracts see it as plain
 /// data, and two terms are equal exactly where their normal forms are.
@@ -52,7 +53,7 @@ impl Term {
     /// The symbol `s`. The number of an entry register is below 16.
     pub fn symbol(alloc: Global, s: Sym) -> Result<Term, NoMemory>
         requires { IsSymbol s }
-        ensures { IfOk result (λ t. t ≡ alone (symbol s)) }
+        ensures { IfOk result (λ t. t ≡ single_atom (symbol s)) }
     {
         let sum = atom_alone(alloc, Atom::Sym(s))?;
         Ok(Term { sum })
@@ -60,15 +61,25 @@ impl Term {
 
     /// `self + other` modulo 2^64, and `None` exactly where that has over 32 nodes.
     pub fn add(&self, alloc: Global, other: &Term) -> Result<Option<Term>, NoMemory>
-        ensures { IfOk result (λ t. t ≡ within (plus self.now other.now)) }
+        ensures { IfOk result (λ t. t ≡ within_node_limit (plus self.now other.now)) }
     {
         let sum = add_scaled(alloc, &self.sum, 1, &other.sum)?;
         Ok(small(sum))
     }
 
+    /// `self + c` modulo 2^64; takes no memory.
+    pub fn add_constant(self, c: u64) -> Term
+        ensures { result ≡ plus self (sum c none) }
+    {
+        let Term { sum } = self;
+        Term {
+            sum: sum.add_constant(c),
+        }
+    }
+
     /// `self - other` modulo 2^64, and `None` exactly where that has over 32 nodes.
     pub fn sub(&self, alloc: Global, other: &Term) -> Result<Option<Term>, NoMemory>
-        ensures { IfOk result (λ t. t ≡ within (minus self.now other.now)) }
+        ensures { IfOk result (λ t. t ≡ within_node_limit (minus self.now other.now)) }
     {
         let sum = add_scaled(alloc, &self.sum, u64::MAX, &other.sum)?;
         Ok(small(sum))
@@ -76,7 +87,7 @@ impl Term {
 
     /// `k * self` modulo 2^64, and `None` exactly where that has over 32 nodes.
     pub fn scale(&self, alloc: Global, k: u64) -> Result<Option<Term>, NoMemory>
-        ensures { IfOk result (λ t. t ≡ within (times k self.now)) }
+        ensures { IfOk result (λ t. t ≡ within_node_limit (times k self.now)) }
     {
         let sum = add_scaled(alloc, &Sum::constant(alloc, 0), k, &self.sum)?;
         Ok(small(sum))
@@ -84,7 +95,7 @@ impl Term {
 
     /// The low bits of `self`, extended to 64 bits, and `None` exactly where that has over 32 nodes.
     pub fn fit(&self, alloc: Global, f: Fit) -> Result<Option<Term>, NoMemory>
-        ensures { IfOk result (λ t. t ≡ within (fit f self.now)) }
+        ensures { IfOk result (λ t. t ≡ within_node_limit (fit f self.now)) }
     {
         let sum = fit_sum(alloc, f, &self.sum)?;
         Ok(small(sum))
@@ -92,7 +103,7 @@ impl Term {
 
     /// `self` and `other`, combined, and `None` exactly where that has over 32 nodes.
     pub fn pair(&self, alloc: Global, p: Pair, other: &Term) -> Result<Option<Term>, NoMemory>
-        ensures { IfOk result (λ t. t ≡ within (pair p self.now other.now)) }
+        ensures { IfOk result (λ t. t ≡ within_node_limit (pair p self.now other.now)) }
     {
         let sum = pair_sums(alloc, p, &self.sum, &other.sum)?;
         Ok(small(sum))
@@ -125,6 +136,13 @@ impl Term {
         self.sum.as_constant()
     }
 
+    /// `Some(s)` exactly where the term is the symbol `s` alone.
+    pub fn as_symbol(&self) -> Option<Sym>
+        ensures { result ≡ symbol_alone self.now }
+    {
+        self.sum.as_symbol()
+    }
+
     /// Whether `s` stands in the term, at whatever depth.
     pub fn mentions(&self, s: Sym) -> bool
         ensures { result ≡ mentions s self.now }
@@ -155,11 +173,21 @@ impl Term {
     }
 }
 
-#[tactic(auto, unfolding(crate::specs::Normal::within))]
+/// An equal term where one is known.
+pub fn copy_known(alloc: Global, known: Option<&Term>) -> Result<Option<Term>, NoMemory>
+    ensures { IfOk result (λ copied. copied ≡ option_copied known.entry) }
+{
+    match known {
+        Some(term) => Ok(Some(term.copy(alloc)?)),
+        None => Ok(None),
+    }
+}
+
+#[tactic(auto, unfolding(crate::specs::Normal::within_node_limit))]
 fn small(sum: Sum) -> Option<Term>
     requires normal { IsNormal sum }
     requires counts { nodes sum < 2 ^ 32 }
-    ensures { result ≡ within sum }
+    ensures { result ≡ within_node_limit sum }
 {
     if sum.size() <= MOST_NODES {
         Some(Term { sum })

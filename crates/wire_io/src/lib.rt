@@ -8,13 +8,12 @@ mod reading;
 mod refusals;
 mod shelves;
 mod sinks;
-#[cfg(test)]
-mod tests;
 mod writing;
 
+pub use no_memory::NoMemory;
 pub use outside::{Shelf, Sink};
 pub use reading::read_whole;
-pub use refusals::{Failed, NoMemory, ReadRefusal, WriteFailed};
+pub use refusals::{Failed, ReadRefusal, WriteFailed};
 pub use shelves::{MemShelf, QuietShelf};
 pub use sinks::{MemSink, QuietSink};
 pub use writing::put_all;

@@ -10,17 +10,6 @@ use thiserror::Error;
 #[error("failed")]
 pub struct Failed;
 
-/// A growth of memory that was refused.
-#[derive(Clone, Copy, Debug, PartialEq, Eq, Error)]
-#[error("out of memory")]
-pub struct NoMemory;
-
-impl From<AllocError> for NoMemory {
-    fn from(_: AllocError) -> Self {
-        NoMemory
-    }
-}
-
 /// Why a file wasn't read whole.
 #[derive(Clone, Copy, Debug, PartialEq, Eq, Error)]
 pub enum ReadRefusal {

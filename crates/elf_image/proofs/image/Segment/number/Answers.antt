@@ -1,4 +1,4 @@
--- The bytes that are copied are those of the file, and zeros stand behind them in both lists.
+-- The bytes that are copied are those of the file, and zeros stand after them in both lists.
 use Rattle.std.proofs.Common.{◌≡◌, ◌∙◌, ap, min, length, take, drop, ◌-◌, ◌++◌, replicate, List, ℕ}
 use Rattle.byteorder.specs.Endian.{little_number}
 use Rattle.elf_image.proofs.NumberLemmas.{number-padded}
