@@ -2,9 +2,9 @@
 use Rattle.std.specs.Prelude.{◌+◌, ◌≤◌, List, [], ◌∷◌}
 use Rattle.std.proofs.Common.{arith}
 use denote.Param.Weighed.{most}
-use Rattle.mem_forest.specs.Plain.{Cell, cells, count}
+use Rattle.mem_forest.specs.Plain.{PlainNode, cells, count}
 
 -- a level has at least the nodes of its largest node
-pub most_le-count : (cs : List Cell) → most (λ c. (count c.under + 1) + 1) cs ≤ count (cells cs) + 1
+pub most_le-count : (cs : List PlainNode) → most (λ c. (count c.under + 1) + 1) cs ≤ count (cells cs) + 1
 most_le-count [] = omega arith
 most_le-count (c ∷ cs) = omega (arith, most_le-count cs)

@@ -3,4 +3,12 @@ pub mod Codes
 pub mod Falls
 pub mod Search
 pub mod Shape
-pub mod Laws
+pub mod Levels
+pub mod Store
+pub mod Load
+pub mod Alias
+pub mod Forget
+pub mod Clear
+pub mod Holders
+pub use Rattle.memory_regions.specs.Relate
+pub use Rattle.memory_regions.specs.Context

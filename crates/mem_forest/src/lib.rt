@@ -1,16 +1,19 @@
 //! What a predicate knows of memory: a forest of named regions, in which siblings are separate and
-//! children lie inside. It holds the data and the searches; it reads no memory and runs nothing.
+//! children lie inside. It holds the data, the searches and the rules; it reads no memory and runs nothing.
 
 #![tactic(auto)]
 
+mod clearing;
 mod forest;
-mod laws;
+mod forgetting;
+mod holders;
+mod levels;
+mod loading;
+mod naming;
 mod node;
-mod region;
-#[cfg(test)]
-mod tests;
+mod storing;
 
 pub use forest::Forest;
-pub use laws::forest_laws;
-pub use node::{Node, room_after};
-pub use region::{Context, Region, Relation};
+pub use holders::{find_holder, holds_term};
+pub use memory_regions::{Context, Region, Relation};
+pub use node::{Node, remaining_after};

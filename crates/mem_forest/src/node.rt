@@ -2,17 +2,17 @@ ghost use Rattle.std.specs.Prelude.{◌≡◌, ◌<◌, ◌≤◌, ◌^◌, ◌+
 ghost use Rattle.std.specs.Int.{from_bool};
 ghost use Rattle.std.specs.Option.{option_copied};
 ghost use Rattle.mem_forest.specs.Plain.{cells, count};
-ghost use Rattle.mem_forest.specs.Search.{has, is_here, find, holders};
-ghost use Rattle.mem_forest.specs.Shape.{is_size, ascending, are_names, is_formed, first_cmp, comes_before, precedes, shaped, left_after, alone, all_alone};
+ghost use Rattle.mem_forest.specs.Search.{has_name, is_here, find, count_at, value_at};
+ghost use Rattle.mem_forest.specs.Shape.{is_size, ascending, are_names, is_formed, first_cmp, comes_before, precedes, shaped, left_after, is_unique, all_alone};
 
-use crate::region::Region;
+use memory_regions::Region;
 use std::alloc::{AllocError, Global};
 use std::cmp::Ordering;
 use std::marker::Model;
 use sym_terms::{NoMemory, Term};
 
 /// The most names of a node.
-const MOST_NAMES: usize = 8;
+pub(crate) const MOST_NAMES: usize = 8;
 
 /// A region of memory: its addresses, which are equal, its size in bytes, the number in its bytes where
 /// that is known, and the regions inside it.
@@ -25,10 +25,10 @@ pub struct Node {
 }
 
 impl Model for Node {
-    ghost use Rattle.mem_forest.specs.Plain.{Cell};
+    ghost use Rattle.mem_forest.specs.Plain.{PlainNode};
     ghost use Rattle.mem_forest.specs.Codes.{coded_cell};
 
-    ghost Value = { Cell };
+    ghost Value = { PlainNode };
 
     ghost coded = { coded_cell };
 
@@ -48,7 +48,7 @@ impl Model for Node {
 impl Node {
     /// Whether a term is one of the names, that is at difference 0 from it.
     pub fn has_name(&self, at: &Term) -> bool
-        ensures { result ≡ has at.now self.now.names }
+        ensures { result ≡ has_name at.now self.now.names }
     {
         self.names.iter().any(|name| name.compare(at).is_eq())
     }
@@ -60,7 +60,7 @@ impl Node {
         ascend(self.names.as_slice())
     }
 
-    fn is(&self, at: &Term, bytes: u8) -> bool
+    pub(crate) fn is(&self, at: &Term, bytes: u8) -> bool
         ensures { result ≡ is_here at.now bytes self.now.names self.now.bytes }
     {
         self.bytes == bytes && self.has_name(at)
@@ -90,10 +90,10 @@ impl Node {
         }
     }
 
-    #[cycle(holders)]
-    fn holders(&self, at: &Term, bytes: u8) -> u32
+    #[cycle(count_at)]
+    fn count_at(&self, at: &Term, bytes: u8) -> u32
         requires { count self.now.under < 2 ^ 31 }
-        ensures value { result ≡ holders at.now bytes self.now.under + from_bool (is_here at.now bytes self.now.names self.now.bytes) }
+        ensures value { result ≡ count_at at.now bytes self.now.under + from_bool (is_here at.now bytes self.now.names self.now.bytes) }
         ensures within { result ≤ count self.now.under + 1 }
     {
         count_holders(self.under.as_slice(), at, bytes) + u32::from(self.is(at, bytes))
@@ -168,7 +168,7 @@ pub(crate) fn are_shaped(nodes: &[Node]) -> bool
 /// What is left of `room` behind a place for each node, at all levels, and `None` exactly where there are
 /// more nodes; it stops where none is left, however deep.
 #[cycle(room)]
-pub fn room_after(nodes: &[Node], room: u32) -> Option<u32>
+pub fn remaining_after(nodes: &[Node], room: u32) -> Option<u32>
     ensures { result ≡ left_after room (cells nodes.now) }
 {
     let mut left = room;
@@ -176,7 +176,7 @@ pub fn room_after(nodes: &[Node], room: u32) -> Option<u32>
         if left == 0 {
             return None;
         }
-        left = room_after(node.under.as_slice(), left - 1)?;
+        left = remaining_after(node.under.as_slice(), left - 1)?;
     }
     Some(left)
 }
@@ -208,23 +208,33 @@ pub(crate) fn find_node<'a>(nodes: &'a [Node], region: &Region) -> Option<&'a No
     None
 }
 
+/// The value of the first node at a region.
+pub(crate) fn find_value<'a>(nodes: &'a [Node], region: &Region) -> Option<&'a Term>
+    ensures { option_copied result ≡ value_at region.now.at region.now.bytes (cells nodes.now) }
+{
+    match find_node(nodes, region) {
+        Some(node) => node.value.as_ref(),
+        None => None,
+    }
+}
+
 /// The number of nodes that have the size and the name.
-#[cycle(holders)]
+#[cycle(count_at)]
 fn count_holders(nodes: &[Node], at: &Term, bytes: u8) -> u32
     requires { count (cells nodes.now) < 2 ^ 31 }
-    ensures value { result ≡ holders at.now bytes (cells nodes.now) }
+    ensures value { result ≡ count_at at.now bytes (cells nodes.now) }
     ensures within { result ≤ count (cells nodes.now) }
 {
     let mut total = 0;
     for node in nodes {
-        total += node.holders(at, bytes);
+        total += node.count_at(at, bytes);
     }
     total
 }
 
 fn is_alone(all: &[Node], names: &[Term], bytes: u8) -> bool
     requires { count (cells all.now) < 2 ^ 31 }
-    ensures { result ≡ alone (cells all.now) bytes names.now }
+    ensures { result ≡ is_unique (cells all.now) bytes names.now }
 {
     for name in names {
         if count_holders(all, name, bytes) > 1 {
@@ -235,7 +245,7 @@ fn is_alone(all: &[Node], names: &[Term], bytes: u8) -> bool
 }
 
 /// Whether no other node of `all` has the size and a name of one of `nodes`.
-#[cycle(alone)]
+#[cycle(is_unique)]
 pub(crate) fn are_alone(all: &[Node], nodes: &[Node]) -> bool
     requires { count (cells all.now) < 2 ^ 31 }
     ensures { result ≡ all_alone (cells all.now) (cells nodes.now) }
@@ -261,7 +271,7 @@ fn copy_terms(alloc: Global, terms: &[Term]) -> Result<Vec<Term>, NoMemory>
     Ok(copies)
 }
 
-fn copy_value(alloc: Global, value: Option<&Term>) -> Result<Option<Term>, NoMemory>
+pub(crate) fn copy_value(alloc: Global, value: Option<&Term>) -> Result<Option<Term>, NoMemory>
     ensures { IfOk result (λ copied. copied ≡ option_copied value.entry) }
 {
     match value {

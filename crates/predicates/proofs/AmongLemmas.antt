@@ -1,10 +1,10 @@
 -- What a search in ascending numbers tells, and what holds of each item of a list.
-use Rattle.std.proofs.Common.{◌≡◌, ℕ, zero, suc, ◌<◌, ◌≤◌, Bool, true, false, List, [], ◌∷◌, length, get_or, Result, Ok, Err, sym, inl, inr, arith}
+use Rattle.std.proofs.Common.{◌≡◌, ℕ, zero, suc, ◌<◌, ◌≤◌, Bool, true, false, List, [], ◌∷◌, length, get_or, Result, Ok, Err, refl, sym, inl, inr, arith}
 use Rattle.std.specs.Prelude.{nat_lt, is_ok, MatchResult, ◌==◌}
 use Rattle.std.specs.Ordering.{nat_cmp}
 use Rattle.std.specs.List.{list_all}
 use Rattle.std.specs.List.Sorted.{IsBinarySearchResult}
-use Rattle.std.proofs.lemmas.Bool.{and_parts, cases_Bool, cases_lt, eq-eqb, ne_eqb, ltb-true}
+use Rattle.std.proofs.lemmas.Bool.{and_parts, and_from, cases_Bool, cases_lt, eq-eqb, ne_eqb, ltb-true}
 use Rattle.std.proofs.lemmas.List.Elements.{All-from_get_or}
 use Rattle.std.proofs.lemmas.List.Folds.{list_all_at, list_any_at, list_any_none}
 use Rattle.std.proofs.lemmas.List.Sorted.{searched}
@@ -51,3 +51,9 @@ among_by xs x (Err i) m =
 -- a search in ascending numbers finds a number exactly where it is among them
 pub found_among : (xs : List ℕ) (x : ℕ) (r : Result ℕ ℕ) → IsBinarySearchResult (λ y. nat_cmp y x) xs r → numbers_ascend xs ≡ true → is_ok r ≡ is_among x xs
 found_among xs x r s e = among_by xs x r (searched xs x r s (ascending_at xs e))
+
+-- a test that is passed at each place is passed by all
+pub all_from : {X : Type 0} (p : X → Bool) (xs : List X) → ((i : ℕ) (d : X) → i < length xs → p (get_or xs i d) ≡ true) → list_all p xs ≡ true
+all_from p [] h = refl
+all_from p (x ∷ xs) h =
+    and_from (p x) (list_all p xs) (h 0 x (omega arith)) (all_from p xs (λ i d k. h (suc i) d (omega (arith, k))))

@@ -2,7 +2,7 @@ pub mod AmongLemmas
 pub mod BoundLemmas
 pub mod EntryLemmas
 pub mod TermLemmas
-pub mod WithinLemmas
 pub mod PlaceLemmas
 pub mod CellLemmas
-pub mod LawLemmas
+pub mod DecidedLemmas
+pub mod WeakenLemmas

@@ -3,6 +3,7 @@ use Rattle.std.specs.Prelude.{ℕ, Bool, true, ◌&&◌, nat_le, nat_lt, List, [
 use Rattle.std.specs.Ordering.{is_lt}
 use Rattle.std.specs.List.{list_all}
 use Rattle.sym_terms.specs.Order.{sum_cmp}
+use Rattle.predicates.specs.Limits.{most_bounds, most_numbers}
 use Rattle.predicates.specs.declared.bound.Values.{Values}
 use Rattle.predicates.specs.declared.bound.Values.TheVariants.{Range, OneOf}
 use Rattle.predicates.specs.declared.bound.Bound.{Bound}
@@ -22,9 +23,9 @@ abbrev pub values_ascend : Values → Bool
 values_ascend (Range low high) = nat_le low high
 values_ascend (OneOf numbers) = numbers_ascend numbers
 
--- whether there are 1 to 1,024 numbers, ascending
+-- whether there are numbers, ascending, and no more than a list may have
 abbrev pub is_list : List ℕ → Bool
-is_list numbers = nat_le 1 (length numbers) && (nat_le (length numbers) 1024 && numbers_ascend numbers)
+is_list numbers = nat_le 1 (length numbers) && (nat_le (length numbers) most_numbers && numbers_ascend numbers)
 
 -- whether a range has its ends in order, and a list is in form
 abbrev pub are_values : Values → Bool
@@ -43,6 +44,6 @@ key_before bound other = is_lt (sum_cmp bound.key other.key)
 abbrev pub keys_ascend : List Bound → Bool
 keys_ascend bounds = in_order key_before bounds
 
--- whether these are the bounds of a predicate: at most 16, with ascending keys and values in form
+-- whether these are the bounds of a predicate: no more than it may have, with ascending keys and values in form
 abbrev pub are_bounds : List Bound → Bool
-are_bounds bounds = nat_le (length bounds) 16 && (keys_ascend bounds && are_formed bounds)
+are_bounds bounds = nat_le (length bounds) most_bounds && (keys_ascend bounds && are_formed bounds)

@@ -1,24 +1,12 @@
 -- What makes one known term, flag fact or bound say another.
 use Rattle.std.specs.Prelude.{ℕ, Bool, true, false, ◌&&◌, ◌==◌, nat_le, Option, Some, None, List}
-use Rattle.std.specs.Ordering.{is_eq}
 use Rattle.std.specs.List.{list_all, list_any}
 use Rattle.bits_core.specs.Width.{bits_of}
-use Rattle.sym_terms.specs.Plain.{PlainSum}
-use Rattle.sym_terms.specs.Order.{sum_cmp}
+pub use Rattle.mem_forest.specs.Holders.{same_term, holds_term}
 use Rattle.predicates.specs.declared.bound.FlagFact.{FlagFact}
 use Rattle.predicates.specs.declared.bound.Values.{Values}
 use Rattle.predicates.specs.declared.bound.Values.TheVariants.{Range, OneOf}
 use Rattle.predicates.specs.declared.bound.Bound.{Bound}
-
--- whether two terms are the same
-abbrev pub same_term : PlainSum → PlainSum → Bool
-same_term a b = is_eq (sum_cmp a b)
-
--- whether the second, where it is known, is the same term as the first
-abbrev pub holds_term : Option PlainSum → Option PlainSum → Bool
-holds_term held None = true
-holds_term None (Some wanted) = false
-holds_term (Some held) (Some wanted) = same_term held wanted
 
 -- whether two flag facts are the same
 abbrev pub same_fact : FlagFact → FlagFact → Bool

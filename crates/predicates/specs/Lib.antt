@@ -1,3 +1,4 @@
+pub mod Limits
 pub mod Bounds
 pub mod Predicate
 pub mod Codes
@@ -8,4 +9,5 @@ pub mod Holding
 pub mod Places
 pub mod Entails
 pub mod Missing
-pub mod Laws
+pub mod Weaken
+pub mod Kinds

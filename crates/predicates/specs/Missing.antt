@@ -1,15 +1,15 @@
 -- The first conjunct of one predicate that another doesn't entail.
 use Rattle.std.specs.Prelude.{ℕ, ◌+◌, Bool, if◌then◌else◌, Option, Some, None, List, [], ◌∷◌}
 use Rattle.std.specs.List.{zip}
-use Rattle.std.specs.Option.{option_and_then, option_map, option_map_or, option_or}
+use Rattle.std.specs.Option.{option_map, option_map_or, option_or}
 use Rattle.sym_terms.specs.Plain.{PlainSum}
-use Rattle.mem_forest.specs.Plain.{Cells, none, cell, Cell, count}
+use Rattle.mem_forest.specs.Plain.{PlainForest, none, cell, PlainNode, count}
 use Rattle.predicates.specs.declared.bound.Bound.{Bound}
 use Rattle.predicates.specs.declared.conjunct.Conjunct as conjunct
 use Rattle.predicates.specs.declared.conjunct.Conjunct.TheVariants as variant
 use Rattle.predicates.specs.Predicate.{Predicate}
 use Rattle.predicates.specs.Holding.{holds_term, holds_flags, holds_bound}
-use Rattle.predicates.specs.Places.{sibling, holds_node}
+pub use Rattle.mem_forest.specs.Holders.{holder}
 
 -- the place of the first item that fails a test, the first item of all being at n
 abbrev pub missing_from : {A : Type 0} → (A → Bool) → ℕ → List A → Option ℕ
@@ -24,15 +24,9 @@ missing_register held wanted = missing_from (λ x. holds_term x.0 x.1) 0 (zip he
 abbrev pub missing_bound : List Bound → List Bound → Option ℕ
 missing_bound held wanted = missing_from (holds_bound held) 0 wanted
 
--- the node of a level with a node's first name and size, where it has its names and its value
-abbrev pub holder : Cells → List PlainSum → ℕ → Option PlainSum → Option Cell
-holder f [] b v = None
-holder f (n ∷ ns) b v =
-    option_and_then (λ c. if holds_node c (n ∷ ns) v then Some c else None) (sibling n b f)
-
 -- the place in preorder of the first node of the second level that has no holder in the first, or whose
 -- children have none under that holder; the first node of all is at n
-abbrev pub missing_cell : ℕ → Cells → Cells → Option ℕ
+abbrev pub missing_cell : ℕ → PlainForest → PlainForest → Option ℕ
 missing_cell n f none = None
 missing_cell n f (cell ns b v under rest) =
     option_map_or (λ c. option_or (missing_cell (n + 1) c.under under) (missing_cell (n + 1 + count under) f rest))

@@ -39,7 +39,8 @@ impl FlagFact {
             && self.right.compare(&other.right).is_eq()
     }
 
-    pub(crate) fn copy(&self, alloc: Global) -> Result<FlagFact, NoMemory>
+    /// An equal flag fact.
+    pub fn copy(&self, alloc: Global) -> Result<FlagFact, NoMemory>
         ensures { IfOk result (λ f. f ≡ self.now) }
     {
         let left = self.left.copy(alloc)?;
@@ -53,7 +54,7 @@ impl FlagFact {
 }
 
 /// The most numbers of a list.
-const MOST_NUMBERS: usize = 1024;
+pub const MOST_NUMBERS: usize = 1024;
 
 impl Values {
     /// Whether a low end isn't over the high end, and the numbers of a list ascend.
@@ -91,7 +92,8 @@ impl Values {
         }
     }
 
-    fn copy(&self, alloc: Global) -> Result<Values, NoMemory>
+    /// Equal values.
+    pub fn copy(&self, alloc: Global) -> Result<Values, NoMemory>
         ensures { IfOk result (λ v. v ≡ self.now) }
     {
         match self {
@@ -117,7 +119,8 @@ impl Bound {
         false
     }
 
-    fn copy(&self, alloc: Global) -> Result<Bound, NoMemory>
+    /// An equal bound.
+    pub fn copy(&self, alloc: Global) -> Result<Bound, NoMemory>
         ensures { IfOk result (λ b. b ≡ self.now) }
     {
         let key = self.key.copy(alloc)?;
@@ -135,12 +138,7 @@ fn is_list(numbers: &[u64]) -> bool
 fn ascend(numbers: &[u64]) -> bool
     ensures { result ≡ numbers_ascend numbers.now }
 {
-    for i in 1..numbers.len() {
-        if numbers[i - 1] >= numbers[i] {
-            return false;
-        }
-    }
-    true
+    numbers.is_sorted_by(|number, next| number < next)
 }
 
 fn lie_between(numbers: &[u64], least: u64, most: u64) -> bool
@@ -171,12 +169,7 @@ fn is_among(number: u64, numbers: &[u64]) -> bool
 pub(crate) fn ascend_by_key(bounds: &[Bound]) -> bool
     ensures { result ≡ keys_ascend bounds.now }
 {
-    for i in 1..bounds.len() {
-        if !bounds[i - 1].key.compare(&bounds[i].key).is_lt() {
-            return false;
-        }
-    }
-    true
+    bounds.is_sorted_by(|bound, next| bound.key.compare(&next.key).is_lt())
 }
 
 pub(crate) fn have_values(bounds: &[Bound]) -> bool

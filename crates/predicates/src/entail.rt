@@ -1,20 +1,16 @@
-// NOTE: see NOTE-FROM-THE-LEAD.md at the top of this clone (Pred has a Model now); remove this line.
 ghost use Rattle.std.specs.Prelude.{◌≡◌, ◌↔◌, ◌<◌, ◌≤◌, ◌+◌, ◌^◌, length, IsTrue, IsNone, IfOk};
-ghost use Rattle.std.specs.List.{list_all};
 ghost use Rattle.std.specs.Option.{option_copied};
 ghost use Rattle.std.specs.Result.{result_err};
 ghost use Rattle.mem_forest.specs.Plain.{cells, count};
-ghost use Rattle.mem_forest.specs.Search.{has};
 ghost use Rattle.mem_forest.specs.Shape.{IsForest};
 ghost use Rattle.predicates.specs.Bounds.{are_formed};
-ghost use Rattle.predicates.specs.Holding.{holds_term, holds_flags};
-ghost use Rattle.predicates.specs.Places.{sibling, comes_first, holds_node};
-ghost use Rattle.predicates.specs.Missing.{missing_register, missing_bound, holder, missing_cell, missing};
+ghost use Rattle.predicates.specs.Holding.{holds_flags};
+ghost use Rattle.predicates.specs.Missing.{missing_register, missing_bound, missing_cell, missing};
 
 use crate::bound::{Bound, FlagFact};
 use crate::conjunct::Conjunct;
 use crate::pred::Pred;
-use mem_forest::Node;
+use mem_forest::{Node, find_holder, holds_term};
 use sym_terms::Term;
 
 impl Pred {
@@ -75,17 +71,7 @@ fn missing_register(held: &[Option<Term>], wanted: &[Option<Term>]) -> Option<u8
     None
 }
 
-fn holds_term(held: Option<&Term>, wanted: Option<&Term>) -> bool
-    ensures { result ≡ holds_term (option_copied held.entry) (option_copied wanted.entry) }
-{
-    match (held, wanted) {
-        (_, None) => true,
-        (None, Some(_)) => false,
-        (Some(held), Some(wanted)) => held.compare(wanted).is_eq(),
-    }
-}
-
-fn holds_flags(held: Option<&FlagFact>, wanted: Option<&FlagFact>) -> bool
+pub(crate) fn holds_flags(held: Option<&FlagFact>, wanted: Option<&FlagFact>) -> bool
     ensures { result ≡ holds_flags (option_copied held.entry) (option_copied wanted.entry) }
 {
     match (held, wanted) {
@@ -110,7 +96,7 @@ fn missing_bound(held: &[Bound], wanted: &[Bound]) -> Option<u32>
     None
 }
 
-/// The place behind these nodes in preorder, of which the first has place `first`, or as an error the
+/// The place after these nodes in preorder, of which the first has place `first`, or as an error the
 /// place of the first that isn't held. It calls itself once for each level, of which a forest has at most 64.
 #[cycle(cells)]
 fn check_nodes(wanted: &[Node], held: &[Node], first: u32) -> Result<u32, u32>
@@ -126,61 +112,4 @@ fn check_nodes(wanted: &[Node], held: &[Node], first: u32) -> Result<u32, u32>
         place = check_nodes(node.under.as_slice(), holder.under.as_slice(), place + 1)?;
     }
     Ok(place)
-}
-
-/// The node of a level with the first name and size of another, where it has its names and its value.
-fn find_holder<'a>(level: &'a [Node], wanted: &Node) -> Option<&'a Node>
-    ensures { option_copied result ≡ holder (cells level.now) wanted.now.names wanted.now.bytes wanted.now.value }
-{
-    let first = wanted.names.first()?;
-    let node = find_sibling(level, first, wanted.bytes)?;
-    if holds_node(node, wanted) {
-        Some(node)
-    } else {
-        None
-    }
-}
-
-fn find_sibling<'a>(level: &'a [Node], at: &Term, bytes: u8) -> Option<&'a Node>
-    ensures { option_copied result ≡ sibling at.now bytes (cells level.now) }
-{
-    for node in level {
-        if node.bytes == bytes && comes_first(at, node.names.as_slice()) {
-            return Some(node);
-        }
-    }
-    None
-}
-
-fn comes_first(at: &Term, names: &[Term]) -> bool
-    ensures { result ≡ comes_first at.now names.now }
-{
-    match names.first() {
-        Some(name) => name.compare(at).is_eq(),
-        None => false,
-    }
-}
-
-fn holds_node(node: &Node, wanted: &Node) -> bool
-    ensures { result ≡ holds_node node.now wanted.now.names wanted.now.value }
-{
-    have_names(node.names.as_slice(), wanted.names.as_slice())
-        && holds_term(node.value.as_ref(), wanted.value.as_ref())
-}
-
-fn have_names(names: &[Term], wanted: &[Term]) -> bool
-    ensures { result ≡ list_all (λ n. has n names.now) wanted.now }
-{
-    for name in wanted {
-        if !has_name(names, name) {
-            return false;
-        }
-    }
-    true
-}
-
-fn has_name(names: &[Term], at: &Term) -> bool
-    ensures { result ≡ has at.now names.now }
-{
-    names.iter().any(|name| name.compare(at).is_eq())
 }

@@ -7,14 +7,11 @@
 mod bound;
 mod conjunct;
 mod entail;
-mod laws;
 mod pred;
 mod site;
-#[cfg(test)]
-mod tests;
+mod weaken;
 
-pub use bound::{Bound, FlagFact, Values};
+pub use bound::{Bound, FlagFact, MOST_NUMBERS, Values};
 pub use conjunct::Conjunct;
-pub use laws::entailment_laws;
-pub use pred::{Pred, entry_pred};
+pub use pred::{MOST_BOUNDS, Pred, REGISTERS, entry_pred};
 pub use site::{Kind, Reason, SiteView};

@@ -1,5 +1,6 @@
 ghost use Rattle.std.specs.Prelude.{◌≡◌, ◌≤◌, ◌↔◌, [], length, IfOk, IfSome, IsSome, IsTrue};
 ghost use Rattle.std.specs.Option.{option_copied};
+ghost use Rattle.predicates.specs.Limits.{registers};
 ghost use Rattle.predicates.specs.Bounds.{are_bounds};
 ghost use Rattle.predicates.specs.Registers.{known_among};
 ghost use Rattle.predicates.specs.Entry.{entry_forest, entry_predicate};
@@ -9,13 +10,13 @@ use mem_forest::{Forest, Node};
 use sqlite_items::Items;
 use std::alloc::{AllocError, Global};
 use std::marker::Model;
-use sym_terms::{NoMemory, Sym, Term};
+use sym_terms::{NoMemory, Sym, Term, copy_known};
 
 /// The number of registers.
-const REGISTERS: usize = 16;
+pub const REGISTERS: usize = 16;
 
 /// The most bounds of a predicate.
-const MOST_BOUNDS: usize = 16;
+pub const MOST_BOUNDS: usize = 16;
 
 /// What is known of a state: the term of each of 16 registers, numbered as in machine code, where it is
 /// known; the flags; bounds of terms, at most 16 with ascending keys, each with its values in form; and
@@ -54,17 +55,31 @@ impl Pred {
         forest: Forest,
     ) -> Option<Pred>
         ensures value { IfSome result (λ p. p ≡ record { regs = regs.items; flags = flags; bounds = bounds.items; forest = forest }) }
-        ensures exact { IsSome result ↔ ((length regs.items ≡ 16) × IsTrue (are_bounds bounds.items)) }
+        ensures exact { IsSome result ↔ ((length regs.items ≡ registers) × IsTrue (are_bounds bounds.items)) }
     {
         if regs.len() != REGISTERS || !in_form(bounds.as_slice()) {
             return None;
         }
-        Some(Pred {
+        Some(Pred::of_checked_parts(regs, flags, bounds, forest))
+    }
+
+    /// The predicate with these parts, of which the caller knows that they are in form. Takes no memory.
+    pub fn of_checked_parts(
+        regs: Vec<Option<Term>>,
+        flags: Option<FlagFact>,
+        bounds: Vec<Bound>,
+        forest: Forest,
+    ) -> Pred
+        requires sixteen { length regs.items ≡ registers }
+        requires formed { IsTrue (are_bounds bounds.items) }
+        ensures { result ≡ record { regs = regs.items; flags = flags; bounds = bounds.items; forest = forest } }
+    {
+        Pred {
             regs: Items::from_vec(regs),
             flags,
             bounds: Items::from_vec(bounds),
             forest,
-        })
+        }
     }
 
     /// The number of conjuncts: known registers, the flag fact, bounds, and nodes of the forest.
@@ -112,21 +127,12 @@ fn count_known(regs: &[Option<Term>]) -> u64
     known
 }
 
-fn copy_register(alloc: Global, register: Option<&Term>) -> Result<Option<Term>, NoMemory>
-    ensures { IfOk result (λ copied. copied ≡ option_copied register.entry) }
-{
-    match register {
-        Some(term) => Ok(Some(term.copy(alloc)?)),
-        None => Ok(None),
-    }
-}
-
 fn copy_registers(alloc: Global, regs: &[Option<Term>]) -> Result<Items<Option<Term>>, NoMemory>
     ensures { IfOk result (λ copies. copies ≡ regs.now) }
 {
     let mut copies = Items::new(alloc);
     for register in regs {
-        copies.push(copy_register(alloc, register.as_ref())?)?;
+        copies.push(copy_known(alloc, register.as_ref())?)?;
     }
     Ok(copies)
 }

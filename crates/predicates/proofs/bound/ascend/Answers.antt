@@ -1,8 +1,9 @@
-use Rattle.std.proofs.Common.{◌-◌, drop, length-drop, sym, ◌∙◌, arith}
+use Rattle.std.proofs.Common.{rules}
 use Rattle.std.specs.Prelude.{nat_lt}
-use Rattle.predicates.proofs.BoundLemmas.{in_order_short}
+use Rattle.std.proofs.lemmas.List.Sorted.{answers_always}
+use Rattle.predicates.proofs.BoundLemmas.{in_order_answer}
 use Rattle.predicates.proofs.bound.ascend.Goals as goal
 
 pub returns : goal.returns
 returns c =
-    sym (in_order_short nat_lt (drop (c.loop-i.i - 1) c.args.numbers.now) (omega (arith, length-drop (c.loop-i.i - 1) c.args.numbers.now))) ∙ c.loop-i.invariant
+    in_order_answer nat_lt c.args.numbers.now c.is_sorted_by.result (c.is_sorted_by.ensures.cases nat_lt (answers_always _ _ _ (λ f a r g called. search rules)))

@@ -1,8 +1,9 @@
-use Rattle.std.proofs.Common.{◌-◌, drop, length-drop, sym, ◌∙◌, arith}
+use Rattle.std.proofs.Common.{rules}
 use Rattle.predicates.specs.Bounds.{key_before}
-use Rattle.predicates.proofs.BoundLemmas.{in_order_short}
+use Rattle.std.proofs.lemmas.List.Sorted.{answers_always}
+use Rattle.predicates.proofs.BoundLemmas.{in_order_answer}
 use Rattle.predicates.proofs.bound.ascend_by_key.Goals as goal
 
 pub returns : goal.returns
 returns c =
-    sym (in_order_short key_before (drop (c.loop-i.i - 1) c.args.bounds.now) (omega (arith, length-drop (c.loop-i.i - 1) c.args.bounds.now))) ∙ c.loop-i.invariant
+    in_order_answer key_before c.args.bounds.now c.is_sorted_by.result (c.is_sorted_by.ensures.cases key_before (answers_always _ _ _ (λ f a r g called. search rules)))

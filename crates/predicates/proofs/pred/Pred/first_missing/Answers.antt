@@ -1,6 +1,6 @@
 use Rattle.std.proofs.Common.{ap, sym, ◌∙◌}
 use Rattle.std.specs.Prelude.{is_some}
-use Rattle.predicates.proofs.LawLemmas.{decided}
+use Rattle.predicates.proofs.DecidedLemmas.{decided}
 use Rattle.predicates.proofs.pred.Pred.first_missing.Goals as goal
 
 pub returns-clause-none : goal.returns-clause-none

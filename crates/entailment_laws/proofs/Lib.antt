@@ -1,0 +1,4 @@
+pub mod WithinLemmas
+pub mod LawLemmas
+pub mod WeakenLemmas
+pub mod GreatestLemmas

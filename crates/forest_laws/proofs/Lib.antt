@@ -1,0 +1,9 @@
+pub mod DifferenceLemmas
+pub mod AddressLemmas
+pub mod RelationLemmas
+pub mod RelateLemmas
+pub mod LevelLemmas
+pub mod DescentLemmas
+pub mod StoreLemmas
+pub mod NameLemmas
+pub mod ValueLemmas

@@ -1,0 +1,3 @@
+pub mod Separate
+pub mod Holds
+pub mod Assumed

@@ -1,0 +1,10 @@
+use Rattle.std.proofs.Common.{sym, subst}
+use Rattle.mem_forest.specs.Plain.{PlainForest, cells}
+use Rattle.mem_forest.specs.Shape.{IsForest}
+use Rattle.mem_forest.proofs.FormLemmas.{clear_forest}
+use Rattle.mem_forest.proofs.forest.Forest.clear_values.Goals as goal
+
+pub invariant_of-self : goal.invariant_of-self
+invariant_of-self c =
+    let P : PlainForest → Type 0 = λ f. IsForest f in
+    subst P (sym c.clear_nodes.ensures) (clear_forest c.args.keeps.now (cells c.self.inside.nodes.items) c.self.invariant)
