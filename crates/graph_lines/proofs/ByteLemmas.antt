@@ -26,7 +26,7 @@ term_byte_within b is = elim (or_cases (is_word_byte b) _ is) [
       | inr lower ↦ let h = and_parts (leb 97 b) (leb b 122) lower in let low = leb-true 97 b h.0 in let high = leb-true b 122 h.1 in (omega (arith, low), omega (arith, high))
     ]
   ]
-  | inr mark ↦ let h = and_parts (leb 40 b) (leb b 45) mark in let low = leb-true 40 b h.0 in let high = leb-true b 45 h.1 in (omega (arith, low), omega (arith, high))
+  | inr separator ↦ let h = and_parts (leb 40 b) (leb b 45) separator in let low = leb-true 40 b h.0 in let high = leb-true b 45 h.1 in (omega (arith, low), omega (arith, high))
 ]
 
 byte_printable : (b : ℕ) → is_term_byte b ≡ true → is_printable b ≡ true
@@ -38,27 +38,27 @@ byte_printable b is =
 pub clean_printable : (w : List ℕ) → list_all is_term_byte w ≡ true → are_printable w ≡ true
 clean_printable w clean = all_clean is_printable byte_printable w clean
 
-byte_free : (mark : ℕ) → is_term_byte mark ≡ false → (b : ℕ) → is_term_byte b ≡ true → not (eqb b mark) ≡ true
-byte_free mark none b is = elim (cases_Bool (eqb b mark)) [
-  | inl same ↦ absurd (both_ways (is_term_byte mark) none (subst (λ (x : ℕ). is_term_byte x ≡ true) (eqb-true b mark same) is))
-  | inr other ↦ not_from_false (eqb b mark) other
+byte_free : (separator : ℕ) → is_term_byte separator ≡ false → (b : ℕ) → is_term_byte b ≡ true → not (eqb b separator) ≡ true
+byte_free separator none b is = elim (cases_Bool (eqb b separator)) [
+  | inl same ↦ absurd (both_ways (is_term_byte separator) none (subst (λ (x : ℕ). is_term_byte x ≡ true) (eqb-true b separator same) is))
+  | inr other ↦ not_from_false (eqb b separator) other
 ]
 
--- a mark that stands in no term parts none
-pub clean_free : (mark : ℕ) → is_term_byte mark ≡ false → (w : List ℕ) → list_all is_term_byte w ≡ true → has_none mark w ≡ true
-clean_free mark none w clean = all_clean (λ b. not (eqb b mark)) (byte_free mark none) w clean
+-- a separator that stands in no term parts none
+pub clean_free : (separator : ℕ) → is_term_byte separator ≡ false → (w : List ℕ) → list_all is_term_byte w ≡ true → has_none separator w ≡ true
+clean_free separator none w clean = all_clean (λ b. not (eqb b separator)) (byte_free separator none) w clean
 
 -- two texts pass where each does
 pub all_both : (test : ℕ → Bool) (a b : List ℕ) → list_all test a ≡ true → list_all test b ≡ true → list_all test (a ++ b) ≡ true
 all_both test a b p q = list_all-append test a b ∙ and_from (list_all test a) (list_all test b) p q
 
--- pieces pass with their marks
-pub all_joined : (test : ℕ → Bool) (mark : ℕ) (ws : List (List ℕ)) → test mark ≡ true → list_all (list_all test) ws ≡ true → list_all test (joined mark ws) ≡ true
-all_joined test mark [] passes all = refl
-all_joined test mark (w ∷ []) passes all = (and_parts (list_all test w) true all).0
-all_joined test mark (w ∷ v ∷ vs) passes all =
+-- fields pass with their separators
+pub all_joined : (test : ℕ → Bool) (separator : ℕ) (ws : List (List ℕ)) → test separator ≡ true → list_all (list_all test) ws ≡ true → list_all test (joined separator ws) ≡ true
+all_joined test separator [] passes all = refl
+all_joined test separator (w ∷ []) passes all = (and_parts (list_all test w) true all).0
+all_joined test separator (w ∷ v ∷ vs) passes all =
     let h = and_parts (list_all test w) (list_all (list_all test) (v ∷ vs)) all in
-    all_both test w (mark ∷ joined mark (v ∷ vs)) h.0 (and_from (test mark) (list_all test (joined mark (v ∷ vs))) passes (all_joined test mark (v ∷ vs) passes h.1))
+    all_both test w (separator ∷ joined separator (v ∷ vs)) h.0 (and_from (test separator) (list_all test (joined separator (v ∷ vs))) passes (all_joined test separator (v ∷ vs) passes h.1))
 
 -- an address may stand in a line
 pub hex_printable : (n : ℕ) → n < 2 ^ 64 → are_printable (digits 16 false n) ≡ true
@@ -68,10 +68,10 @@ hex_printable n lt = clean_printable (digits 16 false n) (hex_clean n lt)
 pub decimal_printable : (n : ℕ) → n < 2 ^ 64 → are_printable (decimal n) ≡ true
 decimal_printable n lt = clean_printable (decimal n) (decimal_clean n lt)
 
--- no mark parts an address
-pub hex_free : (mark n : ℕ) → is_term_byte mark ≡ false → n < 2 ^ 64 → has_none mark (digits 16 false n) ≡ true
-hex_free mark n none lt = clean_free mark none (digits 16 false n) (hex_clean n lt)
+-- no separator parts an address
+pub hex_free : (separator n : ℕ) → is_term_byte separator ≡ false → n < 2 ^ 64 → has_none separator (digits 16 false n) ≡ true
+hex_free separator n none lt = clean_free separator none (digits 16 false n) (hex_clean n lt)
 
 -- nor a decimal number
-pub decimal_free : (mark n : ℕ) → is_term_byte mark ≡ false → n < 2 ^ 64 → has_none mark (decimal n) ≡ true
-decimal_free mark n none lt = clean_free mark none (decimal n) (decimal_clean n lt)
+pub decimal_free : (separator n : ℕ) → is_term_byte separator ≡ false → n < 2 ^ 64 → has_none separator (decimal n) ≡ true
+decimal_free separator n none lt = clean_free separator none (decimal n) (decimal_clean n lt)

@@ -2,8 +2,8 @@
 use Rattle.std.proofs.Common.{◌≡◌, ℕ, Bool, true, List, [], ◌∷◌, ◌++◌, map, Option, Some, refl}
 use Rattle.std.specs.List.{list_all}
 use Rattle.std.proofs.lemmas.Bool.{and_from}
-use Rattle.hoare_graph.specs.Parts.{Each}
-use Rattle.graph_lines.specs.Loose.{each_at}
+use Rattle.graph_data.specs.Parts.{Each}
+use Rattle.graph_lines.specs.Syntax.{each_at}
 
 -- a fact of one more element
 pub each_push : {A : Type 0} (P : A → Type 0) (xs : List A) (x : A) → Each P xs → P x → Each P (xs ++ x ∷ [])

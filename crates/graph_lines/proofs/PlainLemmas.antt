@@ -5,23 +5,24 @@ use Rattle.std.proofs.lemmas.Bool.{lt-ltb}
 use Rattle.predicates.specs.declared.site.Reason.TheVariants.{Unresolved, BadReturn, Unsupported, Stop, Extern}
 use Rattle.predicates.specs.declared.site.Kind.{Kind}
 use Rattle.predicates.specs.declared.site.Kind.TheVariants.{Step, Call, Outside, Return, End}
-use Rattle.hoare_graph.specs.WellFormed.{IsKind, IsEdge}
+use Rattle.graph_data.specs.WellFormed.{IsKind, IsEdge}
 use Rattle.term_text.proofs.NumberLemmas.{hex_reads, decimal_reads}
 use Rattle.graph_lines.specs.declared.line.Line.{Line}
 use Rattle.graph_lines.specs.declared.line.Line.TheVariants as line
+use Rattle.graph_lines.specs.declared.line.VertexLine.TheVariants as in_vertex
 use Rattle.graph_lines.specs.Words.{are_printable}
 use Rattle.graph_lines.specs.Line.{IsLine}
 use Rattle.graph_lines.specs.Text.{hex, kind_text, edge_text, line_text}
-use Rattle.graph_lines.specs.Mark.{mark_for}
-use Rattle.graph_lines.specs.Loose.{kind_at, function_line, refused_line, site_line, vertex_line, edge_at, edges_line}
-use Rattle.graph_lines.specs.Reading.{loose_line}
-use Rattle.graph_lines.proofs.WordLemmas.{has_none, split_joined, pieces_joined}
+use Rattle.graph_lines.specs.LineKind.{kind_of_line}
+use Rattle.graph_lines.specs.Syntax.{kind_at, function_line, refused_line, site_line, vertex_line, edge_at, edges_line}
+use Rattle.graph_lines.specs.Reading.{loose_vertex_line, loose_line}
+use Rattle.graph_lines.proofs.WordLemmas.{has_none, split_joined, fields_joined}
 use Rattle.graph_lines.proofs.EachLemmas.{each_reads, each_passes}
 use Rattle.graph_lines.proofs.ByteLemmas.{hex_free, decimal_free, hex_printable, decimal_printable, all_both, all_joined}
 
--- the line is read again behind its letter and space
+-- the line is read again after its letter and space
 abbrev pub Again : Line → Type 0
-Again l = loose_line (mark_for l) (drop 2 (line_text l)) ≡ Ok l
+Again l = loose_line (kind_of_line l) (drop 2 (line_text l)) ≡ Ok l
 
 -- ---- a function
 
@@ -113,13 +114,13 @@ some_mapped : {X : Type 0} (text : X → List ℕ) (xs : List X) → 0 < length 
 some_mapped text [] some = some
 some_mapped text (x ∷ xs) some = omega arith
 
-pub edges_again : (out : List (ℕ × ℕ)) → IsLine (line.Edges out) → Again (line.Edges out)
-unfolding loose_line edges_line
+pub edges_again : (out : List (ℕ × ℕ)) → IsLine (line.InVertex (in_vertex.Edges out)) → Again (line.InVertex (in_vertex.Edges out))
+unfolding loose_line loose_vertex_line edges_line
 edges_again out is =
-    let parted = pieces_joined 32 (map edge_text out) (some_mapped edge_text out is.1) (each_passes IsEdge edge_text (has_none 32) edge_free out is.0) in
+    let parted = fields_joined 32 (map edge_text out) (some_mapped edge_text out is.1) (each_passes IsEdge edge_text (has_none 32) edge_free out is.0) in
     rw (parted, each_reads IsEdge edge_text edge_at edge_reads out is.0) refl
 
-pub edges_printable : (out : List (ℕ × ℕ)) → IsLine (line.Edges out) → are_printable (line_text (line.Edges out)) ≡ true
+pub edges_printable : (out : List (ℕ × ℕ)) → IsLine (line.InVertex (in_vertex.Edges out)) → are_printable (line_text (line.InVertex (in_vertex.Edges out))) ≡ true
 edges_printable out is = all_joined _ 32 (map edge_text out) refl (each_passes IsEdge edge_text are_printable edge_printable out is.0)
 
 -- ---- the last line

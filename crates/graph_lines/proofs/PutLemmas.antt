@@ -1,9 +1,9 @@
--- What a loop over pieces keeps as it writes them.
+-- What a loop over fields keeps as it writes them.
 use Rattle.std.proofs.Common.{ℕ, Bool, true, false, List, [], ◌∷◌}
 use Rattle.graph_lines.specs.Words.{joined}
 
--- what is still to be written of the pieces
+-- what is still to be written of the fields
 abbrev pub to_write : Bool → ℕ → List (List ℕ) → List ℕ
-to_write first mark [] = []
-to_write true mark (w ∷ ws) = joined mark (w ∷ ws)
-to_write false mark (w ∷ ws) = mark ∷ joined mark (w ∷ ws)
+to_write first separator [] = []
+to_write true separator (w ∷ ws) = joined separator (w ∷ ws)
+to_write false separator (w ∷ ws) = separator ∷ joined separator (w ∷ ws)

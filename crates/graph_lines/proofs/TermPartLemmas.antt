@@ -10,10 +10,10 @@ use Rattle.bits_core.specs.declared.width.Width.TheVariants.{W8, W16, W32, W64}
 use Rattle.bits_core.specs.Width.{bits_of}
 use Rattle.sym_terms.specs.Plain.{PlainSum}
 use Rattle.sym_terms.specs.Normal.{IsTerm}
-use Rattle.mem_forest.specs.declared.region.Region.{Region}
+use Rattle.memory_regions.specs.declared.region.Region.{Region}
 use Rattle.mem_forest.specs.Shape.{is_size}
-use Rattle.hoare_graph.specs.Parts.{Each}
-use Rattle.hoare_graph.specs.WellFormed.{IsKnown, IsRegion}
+use Rattle.graph_data.specs.Parts.{Each}
+use Rattle.graph_data.specs.WellFormed.{IsKnown, IsRegion}
 use Rattle.term_text.specs.declared.cause.TextCause.{TextCause}
 use Rattle.term_text.specs.Names.{is_word_byte, is_term_byte, register_name}
 use Rattle.term_text.specs.Numbers.{number_text}
@@ -24,32 +24,32 @@ use Rattle.term_text.proofs.TermLemmas.{term_reads}
 use Rattle.graph_lines.specs.Words.{ends_term, is_term_word, are_printable}
 use Rattle.graph_lines.specs.Line.{IsGiven}
 use Rattle.graph_lines.specs.Text.{region_text, value_text, given_text}
-use Rattle.graph_lines.specs.Loose.{strip, each_at, size_at, sized_at, region_at, named, all_registers, given_at, width_of}
+use Rattle.graph_lines.specs.Syntax.{strip, each_at, size_at, sized_at, region_at, register_named, all_registers, given_at, width_of}
 use Rattle.graph_lines.specs.Reading.{each_read, region_of, given_of}
 use Rattle.graph_lines.proofs.WordLemmas.{has_none, split_joined}
 use Rattle.graph_lines.proofs.ByteLemmas.{all_clean, clean_free, clean_printable, decimal_free, decimal_printable, all_both}
 
 -- ---- terms
 
-pub term_free : (mark : ℕ) (t : PlainSum) → is_term_byte mark ≡ false → IsTerm t → has_none mark (sum_text t) ≡ true
-term_free mark t none is = clean_free mark none (sum_text t) (term_clean t is)
+pub term_free : (separator : ℕ) (t : PlainSum) → is_term_byte separator ≡ false → IsTerm t → has_none separator (sum_text t) ≡ true
+term_free separator t none is = clean_free separator none (sum_text t) (term_clean t is)
 
 pub term_printable : (t : PlainSum) → IsTerm t → are_printable (sum_text t) ≡ true
 term_printable t is = clean_printable (sum_text t) (term_clean t is)
 
-other_mark : (mark b : ℕ) → is_term_byte mark ≡ false → is_term_byte b ≡ true → eqb b mark ≡ false
-other_mark mark b none is = not-true _ (and_parts (not (eqb b mark)) true (clean_free mark none (b ∷ []) (and_from (is_term_byte b) true is refl))).0
+other_separator : (separator b : ℕ) → is_term_byte separator ≡ false → is_term_byte b ≡ true → eqb b separator ≡ false
+other_separator separator b none is = not-true _ (and_parts (not (eqb b separator)) true (clean_free separator none (b ∷ []) (and_from (is_term_byte b) true is refl))).0
 
 goes_on : (b : ℕ) → is_term_byte b ≡ true → not (ends_term b) ≡ true
 goes_on b is =
-    let e1 = other_mark 32 b refl is in
-    let e2 = other_mark 91 b refl is in
-    let e3 = other_mark 93 b refl is in
-    let e4 = other_mark 59 b refl is in
-    let e5 = other_mark 124 b refl is in
-    let e6 = other_mark 61 b refl is in
-    let e7 = other_mark 123 b refl is in
-    let e8 = other_mark 125 b refl is in
+    let e1 = other_separator 32 b refl is in
+    let e2 = other_separator 91 b refl is in
+    let e3 = other_separator 93 b refl is in
+    let e4 = other_separator 59 b refl is in
+    let e5 = other_separator 124 b refl is in
+    let e6 = other_separator 61 b refl is in
+    let e7 = other_separator 123 b refl is in
+    let e8 = other_separator 125 b refl is in
     rw (e1, e2, e3, e4, e5, e6, e7, e8) refl
 
 word_of : (w : List ℕ) → 0 < length w → list_all (λ b. not (ends_term b)) w ≡ true → is_term_word w ≡ true
@@ -74,17 +74,17 @@ value_printable (Some t) known = term_printable t known
 
 -- ---- numbers
 
--- no mark between words parts a word
-pub word_free : (mark : ℕ) → is_word_byte mark ≡ false → (w : List ℕ) → AreWord w → has_none mark w ≡ true
-word_free mark none [] all = refl
-word_free mark none (b ∷ w) all = and_from (not (eqb b mark)) (has_none mark w) (by_test (cases_Bool (eqb b mark))) (word_free mark none w all.1)
+-- no separator between words parts a word
+pub word_free : (separator : ℕ) → is_word_byte separator ≡ false → (w : List ℕ) → AreWord w → has_none separator w ≡ true
+word_free separator none [] all = refl
+word_free separator none (b ∷ w) all = and_from (not (eqb b separator)) (has_none separator w) (by_test (cases_Bool (eqb b separator))) (word_free separator none w all.1)
   where
-    by_test : (eqb b mark ≡ true) ⊎ (eqb b mark ≡ false) → not (eqb b mark) ≡ true
-    by_test (inl same) = absurd (both_ways (is_word_byte mark) none (subst (λ (x : ℕ). is_word_byte x ≡ true) (eqb-true b mark same) all.0))
-    by_test (inr other) = not_from_false (eqb b mark) other
+    by_test : (eqb b separator ≡ true) ⊎ (eqb b separator ≡ false) → not (eqb b separator) ≡ true
+    by_test (inl same) = absurd (both_ways (is_word_byte separator) none (subst (λ (x : ℕ). is_word_byte x ≡ true) (eqb-true b separator same) all.0))
+    by_test (inr other) = not_from_false (eqb b separator) other
 
-pub number_free : (mark n : ℕ) → is_word_byte mark ≡ false → n < 2 ^ 64 → has_none mark (number_text n) ≡ true
-number_free mark n none lt = word_free mark none (number_text n) (number_word n lt)
+pub number_free : (separator n : ℕ) → is_word_byte separator ≡ false → n < 2 ^ 64 → has_none separator (number_text n) ≡ true
+number_free separator n none lt = word_free separator none (number_text n) (number_word n lt)
 
 pub size_small : (n : ℕ) → IsTrue (is_size n) → n < 2 ^ 64
 size_small n is = elim (or_cases (eqb n 1) _ is) [
@@ -166,12 +166,12 @@ it_is : (r : ℕ) (o : Option ℕ) → is_it r o ≡ true → o ≡ Some r
 it_is r None is = absurd (cc)
 it_is r (Some x) is = ap Some (eqb-true x r is)
 
-all_named : all_below (λ r. is_it r (named all_registers (register_name r))) 16 ≡ true
+all_registers_named : all_below (λ r. is_it r (register_named all_registers (register_name r))) 16 ≡ true
 unfolding all_below
-all_named = refl
+all_registers_named = refl
 
-name_reads : (r : ℕ) → r < 16 → named all_registers (register_name r) ≡ Some r
-name_reads r lt = it_is r _ (below_all (λ r. is_it r (named all_registers (register_name r))) 16 all_named r lt)
+name_reads : (r : ℕ) → r < 16 → register_named all_registers (register_name r) ≡ Some r
+name_reads r lt = it_is r _ (below_all (λ r. is_it r (register_named all_registers (register_name r))) 16 all_registers_named r lt)
 
 all_names_clean : all_below (λ r. list_all is_term_byte (register_name r)) 16 ≡ true
 unfolding all_below
@@ -208,7 +208,7 @@ given_free g is = all_both _ (register_name g.0) (61 ∷ value_text g.1) (clean_
 pub given_printable : (g : ℕ × Option PlainSum) → IsGiven g → are_printable (given_text g) ≡ true
 given_printable g is = all_both _ (register_name g.0) (61 ∷ value_text g.1) (clean_printable (register_name g.0) (name_clean g.0 is.register)) (value_printable g.1 is.value)
 
--- ---- lists, and a mark in front
+-- ---- lists, and a separator before
 
 pub each_seen : {X Y : Type 0} (P : X → Type 0) (text : X → List ℕ) (read : List ℕ → Option Y) (view : X → Y) → ((x : X) → P x → read (text x) ≡ Some (view x)) → (xs : List X) → Each P xs
     → each_at read (map text xs) ≡ Some (map view xs)
@@ -220,9 +220,9 @@ pub each_read_again : {X Y : Type 0} (P : X → Type 0) (view : X → Y) (read :
 each_read_again P view read reads [] all = refl
 each_read_again P view read reads (x ∷ xs) all = rw (reads x all.0, each_read_again P view read reads xs all.1) refl
 
-pub strip_none : (mark : ℕ) (w rest : List ℕ) → is_term_byte mark ≡ false → list_all is_term_byte w ≡ true → 0 < length w → strip (mark ∷ []) (w ++ rest) ≡ None
-strip_none mark [] rest none clean pos = absurd (omega arith)
-strip_none mark (b ∷ w) rest none clean pos =
+pub strip_none : (separator : ℕ) (w rest : List ℕ) → is_term_byte separator ≡ false → list_all is_term_byte w ≡ true → 0 < length w → strip (separator ∷ []) (w ++ rest) ≡ None
+strip_none separator [] rest none clean pos = absurd (omega arith)
+strip_none separator (b ∷ w) rest none clean pos =
     let h = and_parts (is_term_byte b) (list_all is_term_byte w) clean in
-    let e = other_mark mark b none h.0 in
+    let e = other_separator separator b none h.0 in
     rw e refl

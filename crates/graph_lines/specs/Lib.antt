@@ -1,7 +1,7 @@
 pub mod Words
 pub mod Line
 pub mod Text
-pub mod Mark
-pub mod Loose
+pub mod LineKind
+pub mod Syntax
 pub mod Reading
-pub mod Short
+pub mod LineLimits

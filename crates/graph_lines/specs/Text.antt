@@ -3,8 +3,8 @@ use Rattle.std.specs.Prelude.{ℕ, false, Option, Some, None, List, [], ◌∷�
 use Rattle.std.specs.Fmt.{decimal, digits}
 use Rattle.bits_core.specs.Width.{bits_of}
 use Rattle.sym_terms.specs.Plain.{PlainSum}
-use Rattle.mem_forest.specs.Plain.{Cell}
-use Rattle.mem_forest.specs.declared.region.Region.{Region}
+use Rattle.mem_forest.specs.Plain.{PlainNode}
+use Rattle.memory_regions.specs.declared.region.Region.{Region}
 use Rattle.predicates.specs.declared.bound.FlagFact.{FlagFact}
 use Rattle.predicates.specs.declared.bound.Values.{Values}
 use Rattle.predicates.specs.declared.bound.Values.TheVariants.{Range, OneOf}
@@ -13,11 +13,16 @@ use Rattle.predicates.specs.declared.site.Reason.{Reason}
 use Rattle.predicates.specs.declared.site.Reason.TheVariants.{Unresolved, BadReturn, Unsupported, Stop, Extern}
 use Rattle.predicates.specs.declared.site.Kind.{Kind}
 use Rattle.predicates.specs.declared.site.Kind.TheVariants.{Step, Call, Outside, Return, End}
+use Rattle.term_text.specs.Bytes.{space, dot, comma_byte, bar}
 use Rattle.term_text.specs.Names.{register_name}
 use Rattle.term_text.specs.Numbers.{number_text}
 use Rattle.term_text.specs.Text.{sum_text}
 use Rattle.graph_lines.specs.declared.line.Line.{Line}
 use Rattle.graph_lines.specs.declared.line.Line.TheVariants as line
+use Rattle.graph_lines.specs.declared.line.SiteLine.{SiteLine}
+use Rattle.graph_lines.specs.declared.line.SiteLine.TheVariants as in_site
+use Rattle.graph_lines.specs.declared.line.VertexLine.{VertexLine}
+use Rattle.graph_lines.specs.declared.line.VertexLine.TheVariants as in_vertex
 use Rattle.graph_lines.specs.Words.{joined}
 
 -- an address: lower-case hexadecimal without leading zeros
@@ -26,9 +31,9 @@ hex n = digits 16 false n
 
 -- words with a space between them
 abbrev pub spaced : List (List ℕ) → List ℕ
-spaced words = joined 32 words
+spaced words = joined space words
 
--- why nothing is claimed behind a site
+-- why nothing is claimed after a site
 abbrev pub reason_text : Reason → List ℕ
 reason_text Unresolved = codes "unresolved"
 reason_text BadReturn = codes "badreturn"
@@ -64,7 +69,8 @@ fact_text f = spaced (decimal (bits_of f.width) ∷ sum_text f.left ∷ sum_text
 -- `LO..HI`, or numbers in braces
 abbrev pub values_text : Values → List ℕ
 values_text (Range low high) = number_text low ++ (codes ".." ++ number_text high)
-values_text (OneOf numbers) = codes "{" ++ (joined 44 (map number_text numbers) ++ codes "}")
+values_text (OneOf numbers) =
+    codes "{" ++ (joined comma_byte (map number_text numbers) ++ codes "}")
 
 -- `TERM VALUES`
 abbrev pub bound_text : Bound → List ℕ
@@ -76,28 +82,37 @@ content_text (Some t) = codes "=" ++ sum_text t
 content_text None = []
 
 -- `[NAME|NAME;BYTES]=TERM`
-abbrev pub node_text : Cell → List ℕ
+abbrev pub node_text : PlainNode → List ℕ
 node_text c =
-    codes "[" ++ (joined 124 (map sum_text c.names)
+    codes "[" ++ (joined bar (map sum_text c.names)
     ++ (codes ";" ++ (decimal c.bytes ++ (codes "]" ++ content_text c.value))))
 
 -- `ADDR:N`
 abbrev pub edge_text : ℕ × ℕ → List ℕ
 edge_text edge = hex edge.0 ++ (codes ":" ++ decimal edge.1)
 
--- a letter and a space in front, but for the last line
+-- `p REGION REGION`, `g REGION REGION` or `k REGION`
+abbrev pub site_line_text : SiteLine → List ℕ
+site_line_text (in_site.Pair a b) = codes "p " ++ spaced (region_text a ∷ region_text b ∷ [])
+site_line_text (in_site.Fork a b) = codes "g " ++ spaced (region_text a ∷ region_text b ∷ [])
+site_line_text (in_site.Keep r) = codes "k " ++ region_text r
+
+-- a letter and a space, then the line's own part
+abbrev pub vertex_line_text : VertexLine → List ℕ
+vertex_line_text (in_vertex.Registers given) = codes "r " ++ spaced (map given_text given)
+vertex_line_text (in_vertex.Flags f) = codes "z " ++ fact_text f
+vertex_line_text (in_vertex.Bound b) = codes "b " ++ bound_text b
+vertex_line_text (in_vertex.Node level node) =
+    codes "c " ++ (replicate level dot ++ node_text node)
+vertex_line_text (in_vertex.Edges out) = codes "> " ++ spaced (map edge_text out)
+
+-- a letter and a space first, but for the last line
 abbrev pub line_text : Line → List ℕ
 line_text (line.Function entry below above) =
     codes "f " ++ spaced (hex entry ∷ decimal below ∷ decimal above ∷ [])
 line_text (line.Refused entry) = codes "x " ++ spaced (hex entry ∷ codes "notcode" ∷ [])
 line_text (line.Site addr kind) = codes "s " ++ spaced (hex addr ∷ kind_text kind ∷ [])
-line_text (line.Pair a b) = codes "p " ++ spaced (region_text a ∷ region_text b ∷ [])
-line_text (line.Fork a b) = codes "g " ++ spaced (region_text a ∷ region_text b ∷ [])
-line_text (line.Keep r) = codes "k " ++ region_text r
 line_text (line.Vertex n) = codes "v " ++ decimal n
-line_text (line.Registers given) = codes "r " ++ spaced (map given_text given)
-line_text (line.Flags f) = codes "z " ++ fact_text f
-line_text (line.Bound b) = codes "b " ++ bound_text b
-line_text (line.Node level node) = codes "c " ++ (replicate level 46 ++ node_text node)
-line_text (line.Edges out) = codes "> " ++ spaced (map edge_text out)
+line_text (line.InSite l) = site_line_text l
+line_text (line.InVertex l) = vertex_line_text l
 line_text line.End = codes "end"

@@ -2,35 +2,31 @@
 //! written alone; what may follow what is not looked at here.
 #![tactic(auto)]
 
-mod laws;
+mod entry_value;
+mod fields;
 mod line;
-mod mark;
-mod own;
+mod line_kind;
 mod parts;
-mod pieces;
 mod plain;
 mod plain_writing;
 mod reading;
 mod term_reading;
 mod term_writing;
-#[cfg(test)]
-mod tests;
 mod words;
 mod writing;
 
-pub use laws::line_laws;
-pub use line::Line;
-pub use mark::{Mark, mark_of};
-pub use own::is_own;
+pub use entry_value::is_entry_value;
+pub use line::{Line, SiteLine, VertexLine};
+pub use line_kind::{LineKind, SiteLineKind, VertexLineKind, kind_of_bytes};
 pub use plain_writing::{
     put_edges_line, put_end_line, put_function_line, put_refused_line, put_site_line,
-    put_vertex_line,
+    put_vertex_line, reason_text,
 };
-pub use reading::read_line;
+pub use reading::{read_line, read_line_of_kind};
 pub use term_text::TextCause;
 pub use term_writing::{
     put_bound_line, put_fact_line, put_fork_line, put_given, put_keep_line, put_node_line,
-    put_pair_line, put_registers_line,
+    put_pair_line, put_region,
 };
 pub use words::split_at;
 pub use writing::put_line;

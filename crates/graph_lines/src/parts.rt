@@ -2,15 +2,16 @@
 ghost use Rattle.std.specs.Prelude.{◌≡◌, ◌<◌, length, All, IfOk, IfSome, IsTrue, is_some};
 ghost use Rattle.std.specs.List.{list_all};
 ghost use Rattle.std.specs.Option.{option_map};
-ghost use Rattle.graph_lines.specs.Words.{pieces, is_term_word as is_word_of_term};
+ghost use Rattle.graph_lines.specs.Words.{fields, is_term_word as is_word_of_term};
+ghost use Rattle.term_text.specs.Bytes.{comma_byte, bar};
 ghost use Rattle.term_text.specs.Numbers.{number_at};
-ghost use Rattle.graph_lines.specs.Loose.{size_at, sized_at as sized_of, region_at as region_of, regions_at as regions_of, named, all_registers, given_at as given_of, width_of, fact_at as fact_of, content_at as content_of, givens_at, each_at, list_at as list_of, range_at as range_of, values_at as values_of, bound_at as bound_of, node_at as node_of};
+ghost use Rattle.graph_lines.specs.Syntax.{size_at, sized_at as sized_of, region_at as region_of, regions_at as regions_of, register_named, all_registers, given_at as given_of, width_of, fact_at as fact_of, content_at as content_of, givens_at, each_at, list_at as list_of, range_at as range_of, values_at as values_of, bound_at as bound_of, node_at as node_of};
 ghost use Rattle.graph_lines.specs.Line.{HasNumber};
-ghost use Rattle.hoare_graph.specs.Parts.{Each};
-ghost use Rattle.hoare_graph.specs.WellFormed.{IsNumber, AreNumbers};
+ghost use Rattle.graph_data.specs.Parts.{Each};
+ghost use Rattle.graph_data.specs.WellFormed.{IsNumber, AreNumbers};
 ghost use Rattle.mem_forest.specs.Shape.{is_size as is_size_of};
 
-use crate::pieces::first_piece;
+use crate::fields::first_field;
 use crate::words::{is_term_word, split_at, strip};
 use bits_core::Width;
 use predicates::Values;
@@ -36,20 +37,20 @@ fn read_size(word: &[u8]) -> Option<u8>
     }
 }
 
-/// The term's bytes, the size, and what stands behind a `TERM;BYTES]`.
-#[tactic(auto, unfolding(crate::specs::Loose::sized_at))]
+/// The term's bytes, the size, and what stands after a `TERM;BYTES]`.
+#[tactic(auto, unfolding(crate::specs::Syntax::sized_at))]
 pub(crate) fn sized_at(word: &[u8]) -> Option<(&[u8], u8, &[u8])>
     ensures value { option_map (λ p. (p.0.now, (p.1, p.2.now))) result ≡ sized_of word.now }
     ensures size { IfSome result (λ p. IsTrue (is_size_of p.1)) }
 {
-    let (term, behind) = split_at(word, b';')?;
-    let (digits, rest) = split_at(behind, b']')?;
+    let (term, after) = split_at(word, b';')?;
+    let (digits, rest) = split_at(after, b']')?;
     let bytes = read_size(digits)?;
     Some((term, bytes, rest))
 }
 
 /// The term's bytes and the size of a `[TERM;BYTES]`.
-#[tactic(auto, unfolding(crate::specs::Loose::region_at))]
+#[tactic(auto, unfolding(crate::specs::Syntax::region_at))]
 pub(crate) fn region_at(word: &[u8]) -> Option<(&[u8], u8)>
     ensures value { option_map (λ p. (p.0.now, p.1)) result ≡ region_of word.now }
     ensures size { IfSome result (λ p. IsTrue (is_size_of p.1)) }
@@ -66,7 +67,7 @@ pub(crate) fn region_at(word: &[u8]) -> Option<(&[u8], u8)>
 type LooseRegion<'a> = (&'a [u8], u8);
 
 /// Two regions with a space between them.
-#[tactic(auto, unfolding(crate::specs::Loose::regions_at))]
+#[tactic(auto, unfolding(crate::specs::Syntax::regions_at))]
 pub(crate) fn regions_at(rest: &[u8]) -> Option<(LooseRegion<'_>, LooseRegion<'_>)>
     ensures value { option_map (λ p. ((p.0.0.now, p.0.1), (p.1.0.now, p.1.1))) result ≡ regions_of rest.now }
     ensures sizes { IfSome result (λ p. IsTrue (is_size_of p.0.1) × IsTrue (is_size_of p.1.1)) }
@@ -79,8 +80,8 @@ pub(crate) fn regions_at(rest: &[u8]) -> Option<(LooseRegion<'_>, LooseRegion<'_
 
 static REGISTERS: [u8; 16] = [0, 1, 2, 3, 4, 5, 6, 7, 8, 9, 10, 11, 12, 13, 14, 15];
 
-fn first_named(registers: &[u8], word: &[u8]) -> Option<u8>
-    ensures value { result ≡ named registers.now word.now }
+fn first_register_named(registers: &[u8], word: &[u8]) -> Option<u8>
+    ensures value { result ≡ register_named registers.now word.now }
     ensures known { All (λ r. r < 16) registers.now → IfSome result (λ r. r < 16) }
 {
     for register in registers {
@@ -92,13 +93,13 @@ fn first_named(registers: &[u8], word: &[u8]) -> Option<u8>
 }
 
 /// The register by number and the bytes at the place of its term, of a `REG=TERM`.
-#[tactic(auto, unfolding(crate::specs::Loose::given_at))]
+#[tactic(auto, unfolding(crate::specs::Syntax::given_at))]
 pub(crate) fn given_at(word: &[u8]) -> Option<(u8, &[u8])>
     ensures value { option_map (λ p. (p.0, p.1.now)) result ≡ given_of word.now }
     ensures register { IfSome result (λ p. p.0 < 16) }
 {
     let (name, term) = split_at(word, b'=')?;
-    let register = first_named(&REGISTERS, name)?;
+    let register = first_register_named(&REGISTERS, name)?;
     if is_term_word(term) {
         Some((register, term))
     } else {
@@ -119,12 +120,12 @@ fn width_of_bits(bits: u64) -> Option<Width>
 }
 
 /// The width and the bytes at the places of the two terms, of a `W TERM TERM`.
-#[tactic(auto, unfolding(crate::specs::Loose::fact_at))]
+#[tactic(auto, unfolding(crate::specs::Syntax::fact_at))]
 pub(crate) fn fact_at(rest: &[u8]) -> Option<(Width, &[u8], &[u8])>
     ensures { option_map (λ p. (p.0, (p.1.now, p.2.now))) result ≡ fact_of rest.now }
 {
-    let (bits, behind) = split_at(rest, b' ')?;
-    let (left, right) = split_at(behind, b' ')?;
+    let (bits, after) = split_at(rest, b' ')?;
+    let (left, right) = split_at(after, b' ')?;
     let bits = read_decimal(bits)?;
     let width = width_of_bits(bits)?;
     if is_term_word(left) && is_term_word(right) {
@@ -146,84 +147,84 @@ pub(crate) fn content_at(word: &[u8]) -> Option<Option<&[u8]>>
 }
 
 /// Whether each entry of a line of registers has its form.
-#[tactic(auto, unfolding(crate::specs::Loose::givens_at))]
+#[tactic(auto, unfolding(crate::specs::Syntax::givens_at))]
 pub(crate) fn are_givens(rest: &[u8]) -> bool
     ensures { result ≡ is_some (givens_at rest.now) }
 {
-    let mut behind = Some(rest);
-    while let Some(bytes) = behind {
-        let (word, more) = first_piece(bytes, b' ');
+    let mut after = Some(rest);
+    while let Some(bytes) = after {
+        let (word, more) = first_field(bytes, b' ');
         if given_at(word).is_none() {
             return false;
         }
-        behind = more;
+        after = more;
     }
     true
 }
 
 fn are_term_words(names: &[u8]) -> bool
-    ensures { result ≡ list_all is_word_of_term (pieces 124 names.now) }
+    ensures { result ≡ list_all is_word_of_term (fields bar names.now) }
 {
-    let mut behind = Some(names);
-    while let Some(bytes) = behind {
-        let (word, more) = first_piece(bytes, b'|');
+    let mut after = Some(names);
+    while let Some(bytes) = after {
+        let (word, more) = first_field(bytes, b'|');
         if !is_term_word(word) {
             return false;
         }
-        behind = more;
+        after = more;
     }
     true
 }
 
 #[tactic(auto, using(crate::proofs::EachLemmas::each_push))]
 fn numbers_at(alloc: Global, inside: &[u8]) -> Result<Option<Items<u64>>, AllocError>
-    ensures value { IfOk result (λ numbers. numbers ≡ each_at number_at (pieces 44 inside.now)) }
+    ensures value { IfOk result (λ numbers. numbers ≡ each_at number_at (fields comma_byte inside.now)) }
     ensures numbers { IfOk result (λ o. IfSome o (λ ns. Each IsNumber ns × (0 < length ns))) }
 {
     let mut numbers = Items::new(alloc);
-    let mut behind = Some(inside);
-    while let Some(bytes) = behind {
-        let (word, more) = first_piece(bytes, b',');
+    let mut after = Some(inside);
+    while let Some(bytes) = after {
+        let (word, more) = first_field(bytes, b',');
         let Some(number) = read_number(word) else {
             return Ok(None);
         };
         numbers.push(number)?;
-        behind = more;
+        after = more;
     }
     Ok(Some(numbers))
 }
 
-#[tactic(auto, unfolding(crate::specs::Loose::list_at))]
+#[tactic(auto, unfolding(crate::specs::Syntax::list_at))]
 fn list_at(alloc: Global, inner: &[u8]) -> Result<Option<Values>, AllocError>
     ensures value { IfOk result (λ values. values ≡ list_of inner.now) }
     ensures numbers { IfOk result (λ o. IfSome o (λ v. AreNumbers v × HasNumber v)) }
 {
-    let Some((inside, behind)) = split_at(inner, b'}') else {
+    let Some((inside, after)) = split_at(inner, b'}') else {
         return Ok(None);
     };
     let Some(numbers) = numbers_at(alloc, inside)? else {
         return Ok(None);
     };
-    if behind.is_empty() {
+    if after.is_empty() {
         Ok(Some(Values::OneOf(numbers)))
     } else {
         Ok(None)
     }
 }
 
-#[tactic(auto, unfolding(crate::specs::Loose::range_at))]
+#[tactic(auto, unfolding(crate::specs::Syntax::range_at))]
 fn range_at(word: &[u8]) -> Option<Values>
     ensures value { result ≡ range_of word.now }
     ensures numbers { IfSome result (λ v. AreNumbers v × HasNumber v) }
 {
-    let (low, behind) = split_at(word, b'.')?;
-    let high = strip(b".", behind)?;
+    let (low, after) = split_at(word, b'.')?;
+    let high = strip(b".", after)?;
     let low = read_number(low)?;
     let high = read_number(high)?;
     Some(Values::Range(low, high))
 }
 
-#[tactic(auto, unfolding(crate::specs::Loose::values_at))]
+#[tactic(auto, unfolding(crate::specs::Syntax::values_at))]
 fn values_at(alloc: Global, word: &[u8]) -> Result<Option<Values>, AllocError>
     ensures value { IfOk result (λ values. values ≡ values_of word.now) }
     ensures numbers { IfOk result (λ o. IfSome o (λ v. AreNumbers v × HasNumber v)) }
@@ -235,7 +236,7 @@ fn values_at(alloc: Global, word: &[u8]) -> Result<Option<Values>, AllocError>
 }
 
 /// The bytes at the place of the term, and the numbers, of a `TERM LO..HI` or `TERM {N,N}`.
-#[tactic(auto, unfolding(crate::specs::Loose::bound_at))]
+#[tactic(auto, unfolding(crate::specs::Syntax::bound_at))]
 pub(crate) fn bound_at(alloc: Global, rest: &[u8]) -> Result<Option<(&[u8], Values)>, AllocError>
     ensures value { IfOk result (λ o. option_map (λ p. (p.0.now, p.1)) o ≡ bound_of rest.now) }
     ensures numbers { IfOk result (λ o. IfSome o (λ p. AreNumbers p.1 × HasNumber p.1)) }
@@ -255,14 +256,14 @@ pub(crate) fn bound_at(alloc: Global, rest: &[u8]) -> Result<Option<(&[u8], Valu
 
 /// The names' bytes with `|` between them, the size, and the bytes at the place of the value, of a
 /// `[NAME|NAME;BYTES]=TERM`.
-#[tactic(auto, unfolding(crate::specs::Loose::node_at))]
+#[tactic(auto, unfolding(crate::specs::Syntax::node_at))]
 pub(crate) fn node_at(rest: &[u8]) -> Option<(&[u8], u8, Option<&[u8]>)>
-    ensures value { option_map (λ p. (pieces 124 p.0.now, (p.1, option_map (λ w. w.now) p.2))) result ≡ node_of rest.now }
+    ensures value { option_map (λ p. (fields bar p.0.now, (p.1, option_map (λ w. w.now) p.2))) result ≡ node_of rest.now }
     ensures size { IfSome result (λ p. IsTrue (is_size_of p.1)) }
 {
     let inner = strip(b"[", rest)?;
-    let (names, bytes, behind) = sized_at(inner)?;
-    let value = content_at(behind)?;
+    let (names, bytes, after) = sized_at(inner)?;
+    let value = content_at(after)?;
     if are_term_words(names) {
         Some((names, bytes, value))
     } else {

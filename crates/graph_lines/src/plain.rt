@@ -1,14 +1,14 @@
-//! The lines that hold no terms, behind the letter and the space.
+//! The lines that hold no terms, after the letter and the space.
 ghost use Rattle.std.specs.Prelude.{◌≡◌, ℕ, ◌++◌, ◌∷◌, [], Some, IfSome, IfOk, OnOk};
 ghost use Rattle.std.specs.declared.result.Result.TheVariants.{Ok as is_ok};
-ghost use Rattle.hoare_graph.specs.WellFormed.{IsKind, IsEdge};
+ghost use Rattle.graph_data.specs.WellFormed.{IsKind, IsEdge};
 ghost use Rattle.term_text.specs.Reading.{Gives};
 ghost use Rattle.graph_lines.specs.Line.{IsLine};
-ghost use Rattle.graph_lines.specs.Reading.{formed};
-ghost use Rattle.graph_lines.specs.Loose.{function_line as function_at, refused_line as refused_at, site_line as site_at, kind_at, long_kind as long_kind_at, reason_at, vertex_line as vertex_at, edge_at, edges_line as edges_at};
+ghost use Rattle.graph_lines.specs.Reading.{or_bad_line};
+ghost use Rattle.graph_lines.specs.Syntax.{function_line as function_at, refused_line as refused_at, site_line as site_at, kind_at, long_kind as long_kind_at, reason_at, vertex_line as vertex_at, edge_at, edges_line as edges_at};
 
-use crate::line::Line;
-use crate::pieces::first_piece;
+use crate::fields::first_field;
+use crate::line::{Line, VertexLine};
 use crate::words::split_at;
 use predicates::{Kind, Reason};
 use sqlite_items::Items;
@@ -16,7 +16,7 @@ use std::alloc::Global;
 use term_text::{TextCause, read_decimal, read_hex};
 
 /// `ENTRY BELOW ABOVE`.
-#[tactic(auto, unfolding(crate::specs::Loose::function_line))]
+#[tactic(auto, unfolding(crate::specs::Syntax::function_line))]
 pub(crate) fn function_line(rest: &[u8]) -> Option<Line>
     ensures exact { result ≡ function_at rest.now }
     ensures line { IfSome result IsLine }
@@ -30,7 +30,7 @@ pub(crate) fn function_line(rest: &[u8]) -> Option<Line>
 }
 
 /// `ENTRY notcode`.
-#[tactic(auto, unfolding(crate::specs::Loose::refused_line))]
+#[tactic(auto, unfolding(crate::specs::Syntax::refused_line))]
 pub(crate) fn refused_line(rest: &[u8]) -> Option<Line>
     ensures exact { result ≡ refused_at rest.now }
     ensures line { IfSome result IsLine }
@@ -45,7 +45,7 @@ pub(crate) fn refused_line(rest: &[u8]) -> Option<Line>
 }
 
 /// `ADDR KIND`.
-#[tactic(auto, unfolding(crate::specs::Loose::site_line))]
+#[tactic(auto, unfolding(crate::specs::Syntax::site_line))]
 pub(crate) fn site_line(rest: &[u8]) -> Option<Line>
     ensures exact { result ≡ site_at rest.now }
     ensures line { IfSome result IsLine }
@@ -56,7 +56,7 @@ pub(crate) fn site_line(rest: &[u8]) -> Option<Line>
     Some(Line::Site(addr, kind))
 }
 
-#[tactic(auto, unfolding(crate::specs::Loose::kind_at))]
+#[tactic(auto, unfolding(crate::specs::Syntax::kind_at))]
 fn read_kind(word: &[u8]) -> Option<Kind>
     ensures exact { result ≡ kind_at word.now }
     ensures kind { IfSome result IsKind }
@@ -107,7 +107,7 @@ fn read_reason(word: &[u8]) -> Option<Reason>
 }
 
 /// The number of a vertex.
-#[tactic(auto, unfolding(crate::specs::Loose::vertex_line))]
+#[tactic(auto, unfolding(crate::specs::Syntax::vertex_line))]
 pub(crate) fn vertex_line(rest: &[u8]) -> Option<Line>
     ensures exact { result ≡ vertex_at rest.now }
     ensures line { IfSome result IsLine }
@@ -116,7 +116,7 @@ pub(crate) fn vertex_line(rest: &[u8]) -> Option<Line>
     Some(Line::Vertex(number))
 }
 
-#[tactic(auto, unfolding(crate::specs::Loose::edge_at))]
+#[tactic(auto, unfolding(crate::specs::Syntax::edge_at))]
 fn read_edge(word: &[u8]) -> Option<(u64, u32)>
     ensures exact { result ≡ edge_at word.now }
     ensures edge { IfSome result IsEdge }
@@ -132,20 +132,20 @@ fn read_edge(word: &[u8]) -> Option<(u64, u32)>
 }
 
 /// One edge at least, with spaces between them.
-#[tactic(auto, unfolding(crate::specs::Loose::edges_line))]
+#[tactic(auto, unfolding(crate::specs::Syntax::edges_line))]
 pub(crate) fn edges_line(alloc: Global, rest: &[u8]) -> Result<Line, TextCause>
-    ensures exact { Gives (λ l. l) result (formed (edges_at rest.now) is_ok) }
+    ensures exact { Gives (λ l. l) result (or_bad_line (edges_at rest.now) is_ok) }
     ensures line { IfOk result IsLine }
 {
     let mut edges = Items::new(alloc);
-    let mut behind = Some(rest);
-    while let Some(bytes) = behind {
-        let (word, more) = first_piece(bytes, b' ');
+    let mut after = Some(rest);
+    while let Some(bytes) = after {
+        let (word, more) = first_field(bytes, b' ');
         let Some(edge) = read_edge(word) else {
             return Err(TextCause::BadLine);
         };
         edges.push(edge)?;
-        behind = more;
+        after = more;
     }
-    Ok(Line::Edges(edges))
+    Ok(Line::InVertex(VertexLine::Edges(edges)))
 }

@@ -1,9 +1,10 @@
 //! The lines that hold no terms, as they are written.
 ghost use Rattle.std.specs.Prelude.{◌≡◌, ◌++◌, ◌∷◌, OnOk};
 ghost use Rattle.graph_lines.specs.declared.line.Line.TheVariants as line;
+ghost use Rattle.graph_lines.specs.declared.line.VertexLine.TheVariants as in_vertex;
 ghost use Rattle.graph_lines.specs.Text.{reason_text as text_of_reason, kind_text, edge_text, line_text};
 
-use crate::term_writing::put_mark;
+use crate::term_writing::put_separator;
 use predicates::{Kind, Reason};
 use std::alloc::AllocError;
 use term_text::{put_decimal, put_hex};
@@ -55,12 +56,12 @@ pub fn put_vertex_line(out: &mut Vec<u8>, number: u64) -> Result<(), AllocError>
 
 /// Appends the line of edges, each an address and the number of a vertex there, without its line feed.
 pub fn put_edges_line(out: &mut Vec<u8>, edges: &[(u64, u32)]) -> Result<(), AllocError>
-    ensures ok { OnOk result (out.new.items ≡ out.old.items ++ line_text (line.Edges edges.now)) }
+    ensures ok { OnOk result (out.new.items ≡ out.old.items ++ line_text (line.InVertex (in_vertex.Edges edges.now))) }
 {
     out.extend_from_slice(b"> ")?;
     let mut first = true;
     for (addr, vertex) in edges {
-        put_mark(out, first, b' ')?;
+        put_separator(out, first, b' ')?;
         put_edge(out, *addr, *vertex)?;
         first = false;
     }
@@ -92,7 +93,8 @@ fn put_kind(out: &mut Vec<u8>, kind: Kind) -> Result<(), AllocError>
     }
 }
 
-fn reason_text(reason: Reason) -> &'static [u8]
+/// The word of a reason, as `unresolved`.
+pub fn reason_text(reason: Reason) -> &'static [u8]
     ensures { result.now ≡ text_of_reason reason }
 {
     match reason {

@@ -5,11 +5,12 @@ ghost use Rattle.std.specs.declared.result.Result.TheVariants.{Ok as is_ok};
 ghost use Rattle.term_text.specs.Reading.{Gives};
 ghost use Rattle.graph_lines.specs.Line.{IsLine};
 ghost use Rattle.graph_lines.specs.Text.{line_text};
-ghost use Rattle.graph_lines.specs.Reading.{formed as formed_as, gives_own as gives_own_value, loose_line as loose_at, line_at};
+ghost use Rattle.graph_lines.specs.Reading.{or_bad_line as or_bad_line_as, restates_entry_value as restates_value_of, loose_site_line, loose_vertex_line, loose_line as loose_at, line_of_kind, line_at};
+ghost use Rattle.graph_lines.specs.LineKind.{kind_of_bytes};
 
+use crate::entry_value::restates_entry_value;
 use crate::line::Line;
-use crate::mark::{Mark, mark_of};
-use crate::own::gives_own;
+use crate::line_kind::{LineKind, SiteLineKind, VertexLineKind, kind_of_bytes};
 use crate::plain::{edges_line, function_line, refused_line, site_line, vertex_line};
 use crate::term_reading::{
     bound_line, fact_line, fork_line, keep_line, node_line, pair_line, registers_line,
@@ -32,13 +33,30 @@ pub fn read_line(alloc: Global, bytes: &[u8], buffer: &mut Vec<u8>) -> Result<Li
     // What is read has these bytes as its text.
     ensures found { IfOk result (λ l. IsLine l × (bytes.now ≡ line_text l)) }
 {
+    match kind_of_bytes(bytes) {
+        Some(kind) => read_line_of_kind(alloc, kind, bytes, buffer),
+        None => Err(TextCause::BadLine),
+    }
+}
+
+/// The line that bytes of that kind are, as `read_line` gives it.
+#[tactic(auto, using(crate::proofs::KindLemmas::kind_begins), unfolding(crate::specs::Reading::line_of_kind))]
+pub fn read_line_of_kind(
+    alloc: Global,
+    kind: LineKind,
+    bytes: &[u8],
+    buffer: &mut Vec<u8>,
+) -> Result<Line, TextCause>
+    requires { kind_of_bytes bytes.now ≡ Some kind }
+    // Which cause it is.
+    ensures exact { Gives (λ l. l) result (line_of_kind kind bytes.now) }
+    // What is read has these bytes as its text.
+    ensures found { IfOk result (λ l. IsLine l × (bytes.now ≡ line_text l)) }
+{
     if !are_printable(bytes) {
         return Err(TextCause::BadLine);
     }
-    let Some(mark) = mark_of(bytes) else {
-        return Err(TextCause::BadLine);
-    };
-    let line = loose_line(alloc, mark, &bytes[2..], buffer)?;
+    let line = loose_line(alloc, kind, &bytes[2..], buffer)?;
     if is_spelled(&line, bytes, buffer)? {
         Ok(line)
     } else {
@@ -49,32 +67,61 @@ pub fn read_line(alloc: Global, bytes: &[u8], buffer: &mut Vec<u8>) -> Result<Li
 #[tactic(auto, unfolding(crate::specs::Reading::loose_line))]
 fn loose_line(
     alloc: Global,
-    mark: Mark,
+    kind: LineKind,
     rest: &[u8],
     buffer: &mut Vec<u8>,
 ) -> Result<Line, TextCause>
-    ensures exact { Gives (λ l. l) result (loose_at mark rest.now) }
-    ensures line { IfOk result (λ l. gives_own_value l ≡ false → IsLine l) }
+    ensures exact { Gives (λ l. l) result (loose_at kind rest.now) }
+    ensures line { IfOk result (λ l. restates_value_of l ≡ false → IsLine l) }
 {
-    match mark {
-        Mark::Function => formed(function_line(rest)),
-        Mark::Refused => formed(refused_line(rest)),
-        Mark::Site => formed(site_line(rest)),
-        Mark::Pair => pair_line(alloc, rest, buffer),
-        Mark::Fork => fork_line(alloc, rest, buffer),
-        Mark::Keep => keep_line(alloc, rest, buffer),
-        Mark::Vertex => formed(vertex_line(rest)),
-        Mark::Registers => registers_line(alloc, rest, buffer),
-        Mark::Flags => fact_line(alloc, rest, buffer),
-        Mark::Bound => bound_line(alloc, rest, buffer),
-        Mark::Node(level) => node_line(alloc, level, rest, buffer),
-        Mark::Edges => edges_line(alloc, rest),
-        Mark::End => Ok(Line::End),
+    match kind {
+        LineKind::Function => or_bad_line(function_line(rest)),
+        LineKind::Refused => or_bad_line(refused_line(rest)),
+        LineKind::Site => or_bad_line(site_line(rest)),
+        LineKind::Vertex => or_bad_line(vertex_line(rest)),
+        LineKind::InSite(kind) => loose_site_line(alloc, kind, rest, buffer),
+        LineKind::InVertex(kind) => loose_vertex_line(alloc, kind, rest, buffer),
+        LineKind::End => Ok(Line::End),
     }
 }
 
-fn formed(line: Option<Line>) -> Result<Line, TextCause>
-    ensures exact { Gives (λ l. l) result (formed_as line is_ok) }
+fn loose_site_line(
+    alloc: Global,
+    kind: SiteLineKind,
+    rest: &[u8],
+    buffer: &mut Vec<u8>,
+) -> Result<Line, TextCause>
+    ensures exact { Gives (λ l. l) result (loose_site_line kind rest.now) }
+    ensures line { IfOk result IsLine }
+{
+    match kind {
+        SiteLineKind::Pair => pair_line(alloc, rest, buffer),
+        SiteLineKind::Fork => fork_line(alloc, rest, buffer),
+        SiteLineKind::Keep => keep_line(alloc, rest, buffer),
+    }
+}
+
+#[tactic(auto, unfolding(crate::specs::Reading::loose_vertex_line))]
+fn loose_vertex_line(
+    alloc: Global,
+    kind: VertexLineKind,
+    rest: &[u8],
+    buffer: &mut Vec<u8>,
+) -> Result<Line, TextCause>
+    ensures exact { Gives (λ l. l) result (loose_vertex_line kind rest.now) }
+    ensures line { IfOk result (λ l. restates_value_of l ≡ false → IsLine l) }
+{
+    match kind {
+        VertexLineKind::Registers => registers_line(alloc, rest, buffer),
+        VertexLineKind::Flags => fact_line(alloc, rest, buffer),
+        VertexLineKind::Bound => bound_line(alloc, rest, buffer),
+        VertexLineKind::Node(level) => node_line(alloc, level, rest, buffer),
+        VertexLineKind::Edges => edges_line(alloc, rest),
+    }
+}
+
+fn or_bad_line(line: Option<Line>) -> Result<Line, TextCause>
+    ensures exact { Gives (λ l. l) result (or_bad_line_as line is_ok) }
     ensures line { IfOk result (λ l. line ≡ Some l) }
 {
     match line {
@@ -85,9 +132,9 @@ fn formed(line: Option<Line>) -> Result<Line, TextCause>
 
 // Whether the bytes are the text of the line, and no register is given its own entry symbol.
 fn is_spelled(line: &Line, bytes: &[u8], buffer: &mut Vec<u8>) -> Result<bool, AllocError>
-    ensures { IfOk result (λ b. b ≡ (bytes_eq (line_text line.now) bytes.now && not (gives_own_value line.now))) }
+    ensures { IfOk result (λ b. b ≡ (bytes_eq (line_text line.now) bytes.now && not (restates_value_of line.now))) }
 {
     buffer.clear();
     put_line(buffer, line)?;
-    Ok(buffer.as_slice() == bytes && !gives_own(line))
+    Ok(buffer.as_slice() == bytes && !restates_entry_value(line))
 }

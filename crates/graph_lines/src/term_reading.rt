@@ -1,23 +1,26 @@
-//! The lines that hold terms, behind the letter and the space: first the form of the whole line, then its terms
+//! The lines that hold terms, after the letter and the space: first the form of the whole line, then its terms
 //! from the left.
 ghost use Rattle.std.specs.Prelude.{◌≡◌, ◌<◌, false, length, IfOk, IsTrue};
 ghost use Rattle.std.specs.Option.{option_map};
 ghost use Rattle.mem_forest.specs.Shape.{is_size};
-ghost use Rattle.hoare_graph.specs.WellFormed.{IsKnown, IsRegion};
-ghost use Rattle.hoare_graph.specs.Parts.{Each};
+ghost use Rattle.graph_data.specs.WellFormed.{IsKnown, IsRegion};
+ghost use Rattle.graph_data.specs.Parts.{Each};
 ghost use Rattle.sym_terms.specs.Normal.{IsTerm};
+ghost use Rattle.term_text.specs.Bytes.{space, bar};
 ghost use Rattle.term_text.specs.Reading.{Gives, term_at};
 ghost use Rattle.graph_lines.specs.declared.line.Line.TheVariants as line;
+ghost use Rattle.graph_lines.specs.declared.line.VertexLine.TheVariants as in_vertex;
 ghost use Rattle.std.specs.declared.result.Result.TheVariants.{Ok};
-ghost use Rattle.graph_lines.specs.declared.mark.Mark.TheVariants as mark;
+ghost use Rattle.graph_lines.specs.declared.line_kind.SiteLineKind.TheVariants as site_kind;
+ghost use Rattle.graph_lines.specs.declared.line_kind.VertexLineKind.TheVariants as vertex_kind;
 ghost use Rattle.graph_lines.specs.Line.{IsLine, IsEntry, IsNode};
-ghost use Rattle.graph_lines.specs.Words.{pieces};
-ghost use Rattle.graph_lines.specs.Loose.{regions_at as regions_of, node_at as node_at_of};
-ghost use Rattle.graph_lines.specs.Reading.{onward, formed, region_of, pair_of, entry_of, each_read, gives_own, value_of, node_of, loose_line};
+ghost use Rattle.graph_lines.specs.Words.{fields};
+ghost use Rattle.graph_lines.specs.Syntax.{regions_at as regions_of, node_at as node_at_of};
+ghost use Rattle.graph_lines.specs.Reading.{and_then, or_bad_line, region_of, pair_of, entry_of, each_read, restates_entry_value, value_of, node_of, loose_site_line, loose_vertex_line};
 
-use crate::line::Line;
+use crate::fields::first_field;
+use crate::line::{Line, SiteLine, VertexLine};
 use crate::parts::{are_givens, bound_at, fact_at, given_at, node_at, region_at, regions_at};
-use crate::pieces::first_piece;
 use mem_forest::{Node, Region};
 use predicates::{Bound, FlagFact};
 use sqlite_items::Items;
@@ -44,7 +47,7 @@ fn read_regions(
     rest: &[u8],
     buffer: &mut Vec<u8>,
 ) -> Result<(Region, Region), TextCause>
-    ensures exact { Gives (λ p. p) result (formed (regions_of rest.now) pair_of) }
+    ensures exact { Gives (λ p. p) result (or_bad_line (regions_of rest.now) pair_of) }
     ensures regions { IfOk result (λ p. IsRegion p.0 × IsRegion p.1) }
 {
     let Some(((a, a_bytes), (b, b_bytes))) = regions_at(rest) else {
@@ -56,42 +59,42 @@ fn read_regions(
 }
 
 /// `REGION REGION`, taken as separate.
-#[tactic(auto, unfolding(crate::specs::Reading::loose_line))]
+#[tactic(auto, unfolding(crate::specs::Reading::loose_site_line))]
 pub(crate) fn pair_line(alloc: Global, rest: &[u8], buffer: &mut Vec<u8>) -> Result<Line, TextCause>
-    ensures exact { Gives (λ l. l) result (loose_line mark.Pair rest.now) }
+    ensures exact { Gives (λ l. l) result (loose_site_line site_kind.Pair rest.now) }
     ensures line { IfOk result IsLine }
 {
     let (a, b) = read_regions(alloc, rest, buffer)?;
-    Ok(Line::Pair(a, b))
+    Ok(Line::InSite(SiteLine::Pair(a, b)))
 }
 
 /// `REGION REGION`, of which three cases are told apart.
-#[tactic(auto, unfolding(crate::specs::Reading::loose_line))]
+#[tactic(auto, unfolding(crate::specs::Reading::loose_site_line))]
 pub(crate) fn fork_line(alloc: Global, rest: &[u8], buffer: &mut Vec<u8>) -> Result<Line, TextCause>
-    ensures exact { Gives (λ l. l) result (loose_line mark.Fork rest.now) }
+    ensures exact { Gives (λ l. l) result (loose_site_line site_kind.Fork rest.now) }
     ensures line { IfOk result IsLine }
 {
     let (a, b) = read_regions(alloc, rest, buffer)?;
-    Ok(Line::Fork(a, b))
+    Ok(Line::InSite(SiteLine::Fork(a, b)))
 }
 
 /// `REGION`, whose bytes a callee leaves as they were.
-#[tactic(auto, unfolding(crate::specs::Reading::loose_line))]
+#[tactic(auto, unfolding(crate::specs::Reading::loose_site_line))]
 pub(crate) fn keep_line(alloc: Global, rest: &[u8], buffer: &mut Vec<u8>) -> Result<Line, TextCause>
-    ensures exact { Gives (λ l. l) result (loose_line mark.Keep rest.now) }
+    ensures exact { Gives (λ l. l) result (loose_site_line site_kind.Keep rest.now) }
     ensures line { IfOk result IsLine }
 {
     let Some((at, bytes)) = region_at(rest) else {
         return Err(TextCause::BadLine);
     };
     let region = read_region(alloc, at, bytes, buffer)?;
-    Ok(Line::Keep(region))
+    Ok(Line::InSite(SiteLine::Keep(region)))
 }
 
 /// `W TERM TERM`.
-#[tactic(auto, unfolding(crate::specs::Reading::loose_line))]
+#[tactic(auto, unfolding(crate::specs::Reading::loose_vertex_line))]
 pub(crate) fn fact_line(alloc: Global, rest: &[u8], buffer: &mut Vec<u8>) -> Result<Line, TextCause>
-    ensures exact { Gives (λ l. l) result (loose_line mark.Flags rest.now) }
+    ensures exact { Gives (λ l. l) result (loose_vertex_line vertex_kind.Flags rest.now) }
     ensures line { IfOk result IsLine }
 {
     let Some((width, left, right)) = fact_at(rest) else {
@@ -99,24 +102,24 @@ pub(crate) fn fact_line(alloc: Global, rest: &[u8], buffer: &mut Vec<u8>) -> Res
     };
     let left = read_term(alloc, left, buffer)?;
     let right = read_term(alloc, right, buffer)?;
-    Ok(Line::Flags(FlagFact { width, left, right }))
+    Ok(Line::InVertex(VertexLine::Flags(FlagFact { width, left, right })))
 }
 
 /// `TERM LO..HI` or `TERM {N,N}`.
-#[tactic(auto, unfolding(crate::specs::Reading::loose_line))]
+#[tactic(auto, unfolding(crate::specs::Reading::loose_vertex_line))]
 pub(crate) fn bound_line(
     alloc: Global,
     rest: &[u8],
     buffer: &mut Vec<u8>,
 ) -> Result<Line, TextCause>
-    ensures exact { Gives (λ l. l) result (loose_line mark.Bound rest.now) }
+    ensures exact { Gives (λ l. l) result (loose_vertex_line vertex_kind.Bound rest.now) }
     ensures line { IfOk result IsLine }
 {
     let Some((key, set)) = bound_at(alloc, rest)? else {
         return Err(TextCause::BadLine);
     };
     let key = read_term(alloc, key, buffer)?;
-    Ok(Line::Bound(Bound { key, set }))
+    Ok(Line::InVertex(VertexLine::Bound(Bound { key, set })))
 }
 
 type Given = (u8, Option<Term>);
@@ -137,26 +140,26 @@ fn read_given(alloc: Global, word: &[u8], buffer: &mut Vec<u8>) -> Result<Given,
 
 #[tactic(auto, using(crate::proofs::EachLemmas::each_push))]
 fn read_givens(alloc: Global, rest: &[u8], buffer: &mut Vec<u8>) -> Result<Items<Given>, TextCause>
-    ensures exact { Gives (λ gs. gs) result (each_read entry_of (pieces 32 rest.now)) }
+    ensures exact { Gives (λ gs. gs) result (each_read entry_of (fields space rest.now)) }
     ensures entries { IfOk result (λ gs. Each IsEntry gs × (0 < length gs)) }
 {
     let mut given = Items::new(alloc);
-    let mut behind = Some(rest);
-    while let Some(bytes) = behind {
-        let (word, more) = first_piece(bytes, b' ');
+    let mut after = Some(rest);
+    while let Some(bytes) = after {
+        let (word, more) = first_field(bytes, b' ');
         let entry = read_given(alloc, word, buffer)?;
         given.push(entry)?;
-        behind = more;
+        after = more;
     }
     Ok(given)
 }
 
 fn read_registers(alloc: Global, rest: &[u8], buffer: &mut Vec<u8>) -> Result<Line, TextCause>
-    ensures exact { Gives (λ l. l) result (onward (each_read entry_of (pieces 32 rest.now)) (λ given. Ok (line.Registers given))) }
-    ensures line { IfOk result (λ l. gives_own l ≡ false → IsLine l) }
+    ensures exact { Gives (λ l. l) result (and_then (each_read entry_of (fields space rest.now)) (λ given. Ok (line.InVertex (in_vertex.Registers given)))) }
+    ensures line { IfOk result (λ l. restates_entry_value l ≡ false → IsLine l) }
 {
     let given = read_givens(alloc, rest, buffer)?;
-    Ok(Line::Registers(given))
+    Ok(Line::InVertex(VertexLine::Registers(given)))
 }
 
 /// `REG=TERM ..`, where `?` stands for what is unknown.
@@ -165,8 +168,8 @@ pub(crate) fn registers_line(
     rest: &[u8],
     buffer: &mut Vec<u8>,
 ) -> Result<Line, TextCause>
-    ensures exact { Gives (λ l. l) result (loose_line mark.Registers rest.now) }
-    ensures line { IfOk result (λ l. gives_own l ≡ false → IsLine l) }
+    ensures exact { Gives (λ l. l) result (loose_vertex_line vertex_kind.Registers rest.now) }
+    ensures line { IfOk result (λ l. restates_entry_value l ≡ false → IsLine l) }
 {
     if are_givens(rest) {
         read_registers(alloc, rest, buffer)
@@ -177,22 +180,22 @@ pub(crate) fn registers_line(
 
 #[tactic(auto, using(crate::proofs::EachLemmas::each_push))]
 fn read_names(alloc: Global, names: &[u8], buffer: &mut Vec<u8>) -> Result<Vec<Term>, TextCause>
-    ensures exact { Gives (λ v. v.items) result (each_read term_at (pieces 124 names.now)) }
+    ensures exact { Gives (λ v. v.items) result (each_read term_at (fields bar names.now)) }
     ensures terms { IfOk result (λ v. Each IsTerm v.items × (0 < length v.items)) }
 {
     let mut terms = Vec::new(alloc);
-    let mut behind = Some(names);
-    while let Some(bytes) = behind {
-        let (name, more) = first_piece(bytes, b'|');
+    let mut after = Some(names);
+    while let Some(bytes) = after {
+        let (name, more) = first_field(bytes, b'|');
         let term = read_term(alloc, name, buffer)?;
         terms.push(term).map_err(AllocError::from)?;
-        behind = more;
+        after = more;
     }
     Ok(terms)
 }
 
 fn read_node(alloc: Global, rest: &[u8], buffer: &mut Vec<u8>) -> Result<Node, TextCause>
-    ensures exact { Gives (λ n. n) result (formed (node_at_of rest.now) node_of) }
+    ensures exact { Gives (λ n. n) result (or_bad_line (node_at_of rest.now) node_of) }
     ensures node { IfOk result IsNode }
 {
     let Some((names, bytes, value)) = node_at(rest) else {
@@ -224,18 +227,18 @@ fn read_content(
     Ok(Some(term))
 }
 
-/// `[NAME|NAME;BYTES]=TERM` behind a dot for each level below the top.
-#[tactic(auto, unfolding(crate::specs::Reading::loose_line))]
+/// `[NAME|NAME;BYTES]=TERM` after a dot for each level below the top.
+#[tactic(auto, unfolding(crate::specs::Reading::loose_vertex_line))]
 pub(crate) fn node_line(
     alloc: Global,
     level: u64,
     rest: &[u8],
     buffer: &mut Vec<u8>,
 ) -> Result<Line, TextCause>
-    ensures exact { Gives (λ l. l) result (loose_line (mark.Node level) rest.now) }
+    ensures exact { Gives (λ l. l) result (loose_vertex_line (vertex_kind.Node level) rest.now) }
     ensures line { IfOk result IsLine }
 {
-    let behind = rest.get(level as usize..).unwrap_or_default();
-    let node = read_node(alloc, behind, buffer)?;
-    Ok(Line::Node(level, node))
+    let after = rest.get(level as usize..).unwrap_or_default();
+    let node = read_node(alloc, after, buffer)?;
+    Ok(Line::InVertex(VertexLine::Node(level, node)))
 }

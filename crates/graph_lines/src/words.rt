@@ -3,22 +3,22 @@ ghost use Rattle.std.specs.Prelude.{◌≡◌, ◌<◌, not, length, IfSome};
 ghost use Rattle.std.specs.List.{list_all};
 ghost use Rattle.std.specs.Option.{option_map};
 ghost use Rattle.graph_lines.specs.Words.{split_at as split_of, is_printable as is_line_byte, are_printable as are_line_bytes, ends_term as ends_a_term, is_term_word as is_word_of_term};
-ghost use Rattle.graph_lines.specs.Loose.{strip as stripped};
+ghost use Rattle.graph_lines.specs.Syntax.{strip as stripped};
 
-/// What stands before the first byte that is the mark, and what stands behind it.
-pub fn split_at(bytes: &[u8], mark: u8) -> Option<(&[u8], &[u8])>
-    ensures exact { option_map (λ p. (p.0.now, p.1.now)) result ≡ split_of mark bytes.now }
+/// What stands before the first byte that is the separator, and what stands after it.
+pub fn split_at(bytes: &[u8], separator: u8) -> Option<(&[u8], &[u8])>
+    ensures exact { option_map (λ p. (p.0.now, p.1.now)) result ≡ split_of separator bytes.now }
     ensures shorter { IfSome result (λ p. length p.1.now < length bytes.now) }
 {
     for (at, byte) in bytes.iter().enumerate() {
-        if *byte == mark {
+        if *byte == separator {
             return Some((&bytes[..at], &bytes[at + 1..]));
         }
     }
     None
 }
 
-/// What stands behind the word, where the bytes begin with it.
+/// What stands after the word, where the bytes begin with it.
 pub(crate) fn strip<'a>(word: &[u8], bytes: &'a [u8]) -> Option<&'a [u8]>
     ensures { option_map (λ r. r.now) result ≡ stripped word.now bytes.now }
 {

@@ -6,11 +6,11 @@ use Rattle.std.proofs.lemmas.List.{append-nil, drop_more}
 use Rattle.sym_terms.specs.Plain.{PlainSum}
 use Rattle.graph_lines.specs.declared.line.Line.{Line}
 use Rattle.graph_lines.specs.Words.{joined}
-use Rattle.graph_lines.specs.Line.{is_own}
+use Rattle.graph_lines.specs.Line.{is_entry_value}
 use Rattle.graph_lines.specs.Text.{line_text, given_text}
 use Rattle.graph_lines.proofs.PutLemmas.{to_write}
 use Rattle.graph_text.specs.Text.{ended, lines_text}
-use Rattle.open_graph.specs.Lines.{registers_lines}
+use Rattle.graph_builder.specs.Lines.{registers_lines}
 
 -- lines one after another
 pub lines_append : (ls ms : List Line) → lines_text (ls ++ ms) ≡ lines_text ls ++ lines_text ms
@@ -19,7 +19,7 @@ lines_append (l ∷ ls) ms = ap (λ t. ended (line_text l) ++ t) (lines_append l
 
 -- the registers from a number on that aren't their own entry symbol
 abbrev pub given_from : ℕ → List (Option PlainSum) → List (ℕ × Option PlainSum)
-given_from n regs = filter (λ given. not (is_own given)) (enumerate_from n regs)
+given_from n regs = filter (λ given. not (is_entry_value given)) (enumerate_from n regs)
 
 -- what is still to be written of them, with the line feed
 abbrev pub to_give : Bool → List (ℕ × Option PlainSum) → List ℕ
@@ -47,18 +47,18 @@ give_either : (first : Bool) (g : ℕ × Option PlainSum) (given : List (ℕ × 
 give_either true g given = give_first g given
 give_either false g given = give_next g given
 
--- the registers from one on are that one and those behind it
+-- the registers from one on are that one and those after it
 given_at : (n : ℕ) (regs : List (Option PlainSum)) (v : Option PlainSum) → n < length regs → v ≡ get_or regs n v
     → given_from n (drop n regs) ≡ given_from n (v ∷ drop (n + 1) regs)
 given_at n regs v h e = ap (given_from n) (drop_more regs n v h ∙ ap (λ x. x ∷ drop (n + 1) regs) (sym e))
 
-given_by : (b : Bool) (n : ℕ) (v : Option PlainSum) (vs : List (Option PlainSum)) → is_own (n, v) ≡ b
+given_by : (b : Bool) (n : ℕ) (v : Option PlainSum) (vs : List (Option PlainSum)) → is_entry_value (n, v) ≡ b
     → given_from n (v ∷ vs) ≡ cond (not b) ((n, v) ∷ given_from (n + 1) vs) (given_from (n + 1) vs)
 given_by b n v vs e = ap (λ t. cond (not t) ((n, v) ∷ given_from (n + 1) vs) (given_from (n + 1) vs)) e
 
 -- a register that is its own entry symbol isn't written
 pub own_step : (n : ℕ) (regs : List (Option PlainSum)) (v : Option PlainSum) (first now : Bool) (out more all : List ℕ)
-    → n < length regs → v ≡ get_or regs n v → is_own (n, v) ≡ true → out ++ to_give first (given_from n (drop n regs)) ≡ all
+    → n < length regs → v ≡ get_or regs n v → is_entry_value (n, v) ≡ true → out ++ to_give first (given_from n (drop n regs)) ≡ all
     → more ≡ out → now ≡ first → more ++ to_give now (given_from (n + 1) (drop (n + 1) regs)) ≡ all
 own_step n regs v first now out more all h e own kept m f =
     ap (λ o. o ++ to_give now (given_from (n + 1) (drop (n + 1) regs))) m
@@ -68,7 +68,7 @@ own_step n regs v first now out more all h e own kept m f =
 
 -- another one is
 pub other_step : (n : ℕ) (regs : List (Option PlainSum)) (v : Option PlainSum) (first now : Bool) (out more all : List ℕ)
-    → n < length regs → v ≡ get_or regs n v → is_own (n, v) ≡ false → out ++ to_give first (given_from n (drop n regs)) ≡ all
+    → n < length regs → v ≡ get_or regs n v → is_entry_value (n, v) ≡ false → out ++ to_give first (given_from n (drop n regs)) ≡ all
     → more ≡ out ++ ((if first then codes "r " else codes " ") ++ given_text (n, v)) → now ≡ false
     → more ++ to_give now (given_from (n + 1) (drop (n + 1) regs)) ≡ all
 other_step n regs v first now out more all h e own kept m f =

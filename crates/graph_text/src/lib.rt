@@ -2,13 +2,11 @@
 //! its first cause. Text is read line by line.
 #![tactic(auto)]
 
-mod laws;
 mod read;
 mod refusal;
 mod take;
 mod write;
 
-pub use laws::graph_text_laws;
 pub use read::read_graph;
 pub use refusal::TextRefusal;
 pub use term_text::TextCause;

@@ -1,15 +1,19 @@
 //! A graph from its text.
 ghost use Rattle.std.specs.Prelude.{◌≡◌, IfOk, Ok};
-ghost use Rattle.hoare_graph.specs.declared.graph.Graph.{Graph};
-ghost use Rattle.hoare_graph.specs.WellFormed.{IsWellFormed};
-ghost use Rattle.graph_text.specs.Text.{graph_text};
-ghost use Rattle.graph_text.specs.Reading.{graph_at, refusal_at, GivesGraph};
+ghost use Rattle.term_text.specs.Bytes.{line_feed};
+ghost use Rattle.graph_data.specs.declared.graph.Graph.{Graph};
+ghost use Rattle.graph_data.specs.WellFormed.{IsWellFormed};
+ghost use Rattle.graph_lines.specs.Words.{fields};
+ghost use Rattle.graph_builder.specs.Lines.{graph_lines};
+ghost use Rattle.graph_builder.specs.Partial.{new_builder};
+ghost use Rattle.graph_text.specs.Text.{lines_text, graph_text};
+ghost use Rattle.graph_text.specs.Reading.{run, graph_at, refusal_at, GivesGraph};
 
 use crate::refusal::TextRefusal;
-use crate::take::{finish, take_line};
+use crate::take::{headless, take_end, take_head, take_line};
+use graph_builder::{Builder, builder_laws};
+use graph_data::Graph;
 use graph_lines::split_at;
-use hoare_graph::Graph;
-use open_graph::Reading;
 use std::alloc::Global;
 use term_text::TextCause;
 
@@ -19,7 +23,36 @@ fn refusal_at(line: u64, cause: TextCause) -> TextRefusal
 {
     match cause {
         TextCause::NoMemory => TextRefusal { line: 0, cause },
-        _ => TextRefusal { line, cause },
+        TextCause::BadHead
+        | TextCause::BadLine
+        | TextCause::BadTerm
+        | TextCause::NotCanonical
+        | TextCause::OutOfOrder
+        | TextCause::OverLimit
+        | TextCause::Unended => TextRefusal { line, cause },
+    }
+}
+
+/// The graph of the lines after the head, of which the first has number 2.
+fn read_lines(alloc: Global, text: &[u8]) -> Result<Graph, TextRefusal>
+    ensures exact { GivesGraph result (run 2 new_builder (fields line_feed text.now)) }
+    ensures found { IfOk result (λ g. IsWellFormed g × (text.now ≡ lines_text (graph_lines g))) }
+{
+    let mut buffer = Vec::new(alloc);
+    let mut builder = Builder::new(alloc);
+    let mut line = 2;
+    let mut rest = text;
+    while let Some((bytes, after)) = split_at(rest, b'\n') {
+        match take_line(alloc, builder, bytes, &mut buffer) {
+            Ok(next) => builder = next,
+            Err(cause) => return Err(refusal_at(line, cause)),
+        }
+        line += 1;
+        rest = after;
+    }
+    match take_end(builder, rest) {
+        Ok(graph) => Ok(graph),
+        Err(cause) => Err(refusal_at(line, cause)),
     }
 }
 
@@ -30,7 +63,6 @@ fn refusal_at(line: u64, cause: TextCause) -> TextRefusal
 /// `NotCanonical` where it has another spelling; `OutOfOrder` where it doesn't follow in order; `OverLimit` where
 /// there is too much of something. A text without its last line or its last line feed is `Unended`. Where memory
 /// runs out, the line is 0.
-#[tactic(auto, using(crate::proofs::RunLemmas::run_taken, crate::proofs::RunLemmas::run_refused, crate::proofs::RunLemmas::end_refused, crate::proofs::RunLemmas::end_read))]
 pub fn read_graph(alloc: Global, text: &[u8]) -> Result<Graph, TextRefusal>
     // It is the reading of the text.
     ensures exact { GivesGraph result (graph_at text.now) }
@@ -39,20 +71,12 @@ pub fn read_graph(alloc: Global, text: &[u8]) -> Result<Graph, TextRefusal>
     // The text of a well-formed graph is read as the graph.
     ensures only { (g : Graph) → IsWellFormed g → text.now ≡ graph_text g → GivesGraph result (Ok g) }
 {
-    let mut buffer = Vec::new(alloc);
-    let mut reading = Reading::begin(alloc);
-    let mut line = 1;
-    let mut rest = text;
-    while let Some((bytes, behind)) = split_at(rest, b'\n') {
-        match take_line(alloc, reading, bytes, &mut buffer) {
-            Ok(next) => reading = next,
-            Err(cause) => return Err(refusal_at(line, cause)),
-        }
-        line += 1;
-        rest = behind;
-    }
-    match finish(reading, rest) {
-        Ok(graph) => Ok(graph),
-        Err(cause) => Err(refusal_at(line, cause)),
+    builder_laws();
+    let Some((head, rest)) = split_at(text, b'\n') else {
+        return Err(refusal_at(1, headless(text)));
+    };
+    match take_head(head) {
+        Ok(()) => read_lines(alloc, rest),
+        Err(cause) => Err(refusal_at(1, cause)),
     }
 }

@@ -2,17 +2,17 @@
 ghost use Rattle.std.specs.Prelude.{◌≡◌, ◌++◌, ◌+◌, ◌≤◌, ◌<◌, ◌^◌, codes, map, length, if◌then◌else◌, IfOk, OnOk};
 ghost use Rattle.std.specs.List.{flat_map, enumerate_from};
 ghost use Rattle.mem_forest.specs.Plain.{cells, count};
-ghost use Rattle.graph_lines.specs.declared.line.Line.TheVariants as line;
+ghost use Rattle.graph_lines.specs.Line.{pair_line, keep_line, bound_line};
 ghost use Rattle.graph_lines.specs.Text.{given_text};
-ghost use Rattle.open_graph.specs.Lines.{given_of, registers_lines, flags_lines, node_lines, edges_lines, pred_lines, vertex_lines, fork_lines, site_lines, function_lines};
+ghost use Rattle.graph_builder.specs.Lines.{given_of, registers_lines, flags_lines, node_lines, edges_lines, pred_lines, vertex_lines, fork_lines, site_lines, function_lines};
 ghost use Rattle.graph_text.specs.Text.{lines_text, function_text, graph_text};
 
+use graph_data::{Function, Graph, Site, Vertex};
 use graph_lines::{
-    is_own, put_bound_line, put_edges_line, put_end_line, put_fact_line, put_fork_line,
+    is_entry_value, put_bound_line, put_edges_line, put_end_line, put_fact_line, put_fork_line,
     put_function_line, put_given, put_keep_line, put_node_line, put_pair_line, put_refused_line,
     put_site_line, put_vertex_line,
 };
-use hoare_graph::{Function, Graph, Site, Vertex};
 use mem_forest::{Node, Region};
 use predicates::{Bound, FlagFact, Pred};
 use std::alloc::{AllocError, Global};
@@ -41,7 +41,7 @@ fn put_registers(out: &mut Vec<u8>, regs: &[Option<Term>]) -> Result<(), AllocEr
 {
     let mut first = true;
     for (register, value) in regs.iter().enumerate() {
-        if !is_own(register as u8, value) {
+        if !is_entry_value(register as u8, value) {
             put_register(out, first, register as u8, value)?;
             first = false;
         }
@@ -65,7 +65,7 @@ fn put_flags(out: &mut Vec<u8>, flags: &Option<FlagFact>) -> Result<(), AllocErr
 }
 
 fn put_bounds(out: &mut Vec<u8>, bounds: &[Bound]) -> Result<(), AllocError>
-    ensures { OnOk result (out.new.items ≡ out.old.items ++ lines_text (map line.Bound bounds.now)) }
+    ensures { OnOk result (out.new.items ≡ out.old.items ++ lines_text (map bound_line bounds.now)) }
 {
     for bound in bounds {
         put_bound_line(out, bound)?;
@@ -120,7 +120,7 @@ fn put_vertex(out: &mut Vec<u8>, number: u64, vertex: &Vertex) -> Result<(), All
 }
 
 fn put_pairs(out: &mut Vec<u8>, pairs: &[(Region, Region)]) -> Result<(), AllocError>
-    ensures { OnOk result (out.new.items ≡ out.old.items ++ lines_text (map (λ pair. line.Pair pair.0 pair.1) pairs.now)) }
+    ensures { OnOk result (out.new.items ≡ out.old.items ++ lines_text (map pair_line pairs.now)) }
 {
     for (a, b) in pairs {
         put_pair_line(out, a, b)?;
@@ -142,7 +142,7 @@ fn put_fork(out: &mut Vec<u8>, fork: &Option<(Region, Region)>) -> Result<(), Al
 }
 
 fn put_keeps(out: &mut Vec<u8>, keeps: &[Region]) -> Result<(), AllocError>
-    ensures { OnOk result (out.new.items ≡ out.old.items ++ lines_text (map line.Keep keeps.now)) }
+    ensures { OnOk result (out.new.items ≡ out.old.items ++ lines_text (map keep_line keeps.now)) }
 {
     for region in keeps {
         put_keep_line(out, region)?;

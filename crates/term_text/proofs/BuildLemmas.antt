@@ -1,4 +1,4 @@
--- What is read of words, and what the machine builds, are terms.
+-- What is read of words, and what the parser builds, are terms.
 use Rattle.std.proofs.Common.{◌≡◌, ℕ, ◌+◌, ◌*◌, ◌^◌, ◌<◌, Bool, true, false, ◌&&◌, eqb, ltb, leb, if◌then◌else◌, List, [], ◌∷◌, Option, Some, None, refl, arith, lit<}
 use Rattle.std.specs.Prelude.{IfSome}
 use Rattle.std.specs.Str.{bytes_eq}
@@ -8,16 +8,16 @@ use Rattle.std.proofs.lemmas.Bool.{leb-true, ltb-true}
 use Rattle.sym_terms.specs.declared.kinds.Fit.{Fit}
 use Rattle.sym_terms.specs.declared.kinds.Pair.{Pair}
 use Rattle.sym_terms.specs.declared.kinds.Sym.{Sym}
-use Rattle.sym_terms.specs.Plain.{PlainSum, sum, none, symbol, alone, IsSymbol}
+use Rattle.sym_terms.specs.Plain.{PlainSum, sum, none, symbol, single_atom, IsSymbol}
 use Rattle.sym_terms.specs.Nodes.{nodes}
-use Rattle.sym_terms.specs.Normal.{plus, times, fit, pair, within, IsNormal, IsTerm}
+use Rattle.sym_terms.specs.Normal.{plus, times, fit, pair, within_node_limit, IsNormal, IsTerm}
 use Rattle.sym_terms.proofs.SumLemmas.{plus_times_normal}
 use Rattle.sym_terms.proofs.AtomLemmas.{alone_normal, zero_normal, fit_normal, pair_normal}
 use Rattle.term_text.specs.declared.names.Keyword.{Keyword}
 use Rattle.term_text.specs.declared.names.Keyword.TheVariants as word
 use Rattle.term_text.specs.Numbers.{radix, digits_at, numeral_at, number_at}
 use Rattle.term_text.specs.Names.{IsKnown, keywords, name_of, named, keyword_at, as_symbol, as_named, symbol_at}
-use Rattle.term_text.specs.Machine.{zero_term, or_zero, signed, multiple, total, fitted_of, paired_of}
+use Rattle.term_text.specs.Parser.{zero_term, or_zero, signed, multiple, total, fitted_of, paired_of}
 
 -- ---- numbers have 64 bits, and symbols are those of a program
 
@@ -91,8 +91,8 @@ pub zero_is : IsTerm zero_term
 zero_is = record { normal = zero_normal; small = omega arith }
 
 -- what is within the limit, or 0
-or_zero_is : (a : PlainSum) → IsNormal a → IsTerm (or_zero (within a))
-unfolding within
+or_zero_is : (a : PlainSum) → IsNormal a → IsTerm (or_zero (within_node_limit a))
+unfolding within_node_limit
 or_zero_is a n = by_size (leb (nodes a) 32) refl
   where
     by_size : (b : Bool) → leb (nodes a) 32 ≡ b → IsTerm (or_zero (if b then Some a else None))
@@ -103,7 +103,7 @@ or_zero_is a n = by_size (leb (nodes a) 32) refl
 multiple_is_term : (k : ℕ) (t : PlainSum) → IsTerm t → IsTerm (multiple k t)
 multiple_is_term k t is = by_one (eqb k 1)
   where
-    by_one : (b : Bool) → IsTerm (if b then t else or_zero (within (times k t)))
+    by_one : (b : Bool) → IsTerm (if b then t else or_zero (within_node_limit (times k t)))
     by_one true = is
     by_one false = or_zero_is (times k t) (plus_times_normal zero_term k t zero_normal is.normal)
 
@@ -112,7 +112,7 @@ pub total_is_term : (count : ℕ) (s : PlainSum) (k : ℕ) (t : PlainSum) → Is
 unfolding total
 total_is_term count s k t s_is t_is = by_count (ltb 32 count)
   where
-    by_count : (b : Bool) → IsTerm (if b then zero_term else or_zero (within (plus s (multiple k t))))
+    by_count : (b : Bool) → IsTerm (if b then zero_term else or_zero (within_node_limit (plus s (multiple k t))))
     by_count true = zero_is
     by_count false = or_zero_is (plus s (multiple k t)) (plus_times_normal s 1 (multiple k t) s_is.normal (multiple_is_term k t t_is).normal)
 
@@ -121,7 +121,7 @@ pub fitted_is_term : (count : ℕ) (f : Fit) (t : PlainSum) → IsTerm t → IsT
 unfolding fitted_of
 fitted_is_term count f t is = by_count (ltb 32 count)
   where
-    by_count : (b : Bool) → IsTerm (if b then zero_term else or_zero (within (fit f t)))
+    by_count : (b : Bool) → IsTerm (if b then zero_term else or_zero (within_node_limit (fit f t)))
     by_count true = zero_is
     by_count false = or_zero_is (fit f t) (fit_normal f t is.normal)
 
@@ -130,7 +130,7 @@ pub paired_is_term : (count : ℕ) (p : Pair) (a b : PlainSum) → IsTerm a → 
 unfolding paired_of
 paired_is_term count p a b a_is b_is = by_count (ltb 32 count)
   where
-    by_count : (c : Bool) → IsTerm (if c then zero_term else or_zero (within (pair p a b)))
+    by_count : (c : Bool) → IsTerm (if c then zero_term else or_zero (within_node_limit (pair p a b)))
     by_count true = zero_is
     by_count false = or_zero_is (pair p a b) (pair_normal p a b a_is.normal b_is.normal)
 
@@ -140,5 +140,5 @@ constant_is_term true n lt = record { normal = (omega arith, tt); small = omega 
 constant_is_term false n lt = record { normal = (lt, tt); small = omega arith }
 
 -- a symbol alone
-pub symbol_is_term : (s : Sym) → IsSymbol s → IsTerm (alone (symbol s))
+pub symbol_is_term : (s : Sym) → IsSymbol s → IsTerm (single_atom (symbol s))
 symbol_is_term s is = record { normal = alone_normal (symbol s) is; small = omega arith }

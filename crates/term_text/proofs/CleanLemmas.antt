@@ -1,10 +1,10 @@
--- The bytes of a term's text are letters, digits and the six marks, and there is one at least.
+-- The bytes of a term's text are letters, digits and the six separators, and there is one at least.
 use Rattle.std.proofs.Common.{◌≡◌, ℕ, ◌^◌, ◌<◌, Bool, true, false, ◌&&◌, eqb, if◌then◌else◌, List, [], ◌∷◌, ◌++◌, length, refl, ap₂, ◌∙◌, arith}
 use Rattle.std.specs.Fmt.{decimal, digits}
 use Rattle.std.specs.List.{list_all}
 use Rattle.std.proofs.lemmas.List.{length-append}
 use Rattle.std.proofs.lemmas.List.Folds.{list_all-append}
-use Rattle.sym_terms.specs.Plain.{PlainSum, sum, Pieces, none, more, PlainAtom, symbol, fitted, paired}
+use Rattle.sym_terms.specs.Plain.{PlainSum, sum, Summands, none, more, PlainAtom, symbol, fitted, paired}
 use Rattle.sym_terms.specs.Normal.{IsNormal, AreNormal, IsNormalAtom, IsTerm}
 use Rattle.term_text.specs.Numbers.{number_text}
 use Rattle.term_text.specs.Names.{is_word_byte, is_term_byte, fit_name, pair_name}
@@ -72,7 +72,7 @@ mutual
   sum_clean : (a : PlainSum) → IsNormal a → AreClean (sum_text a)
   sum_clean (sum c xs) n = both (pieces_text true xs) (constant_text (are_none xs) c) (pieces_clean true xs n.1) (constant_clean (are_none xs) c n.0)
 
-  pieces_clean : (first : Bool) (xs : Pieces) → AreNormal xs → AreClean (pieces_text first xs)
+  pieces_clean : (first : Bool) (xs : Summands) → AreNormal xs → AreClean (pieces_text first xs)
   pieces_clean first none n = refl
   pieces_clean first (more a k xs) n =
       both (sign_text first k ++ (factor_text (magnitude k) ++ atom_text a)) (pieces_text false xs)
@@ -86,17 +86,17 @@ mutual
       both (pair_name p) (40 ∷ (sum_text a ++ 44 ∷ (sum_text b ++ 41 ∷ []))) (clean_words _ (pair_word p))
       (both (sum_text a) (44 ∷ (sum_text b ++ 41 ∷ [])) (sum_clean a n.0) (both (sum_text b) (41 ∷ []) (sum_clean b n.1) refl))
 
--- each byte of a term's text is a letter, a digit or one of the six marks
+-- each byte of a term's text is a letter, a digit or one of the six separators
 pub term_clean : (t : PlainSum) → IsTerm t → list_all is_term_byte (sum_text t) ≡ true
 term_clean t is = sum_clean t is.normal
 
 -- ---- no term is empty
 
--- a text with something in front is not empty
+-- a text with something before it is not empty
 left_begins : (x y : List ℕ) → 0 < length x → 0 < length (x ++ y)
 left_begins x y h = omega (arith, length-append x y)
 
--- nor one with something behind
+-- nor one with something after
 right_begins : (x y : List ℕ) → 0 < length y → 0 < length (x ++ y)
 right_begins x y h = omega (arith, length-append x y)
 

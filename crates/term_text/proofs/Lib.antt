@@ -9,4 +9,3 @@ pub mod CleanLemmas
 pub mod ShortLemmas
 pub mod BuildLemmas
 pub mod KeepLemmas
-pub mod LawLemmas

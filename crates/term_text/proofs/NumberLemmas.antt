@@ -12,7 +12,7 @@ use Rattle.term_text.specs.Names.{is_word_byte}
 
 -- ---- the digits of a number
 
--- digits in front of others
+-- digits before others
 onto_append : (k n : ℕ) (acc : List ℕ) → digits_onto k 16 false n acc ≡ digits_onto k 16 false n [] ++ acc
 onto_append zero n acc = refl
 onto_append (suc k) n acc =
@@ -49,7 +49,7 @@ pub one_digit : (n : ℕ) → n < 16 → digits 16 false n ≡ digit_glyph false
 unfolding digits
 one_digit n lt = rw (let e : n / 16 ≡ 0 = omega arith in e) refl
 
--- the last digit of a number stands behind those of the quotient
+-- the last digit of a number stands after those of the quotient
 pub last_digit : (n : ℕ) → n < 2 ^ 64 → 16 ≤ n
     → digits 16 false n ≡ digits 16 false (n / 16) ++ digit_glyph false (n % 16) ∷ []
 unfolding digits
@@ -129,7 +129,7 @@ pushed_is : (hex : Bool) (m c : ℕ) → digit_value c < radix hex → m * radix
     → pushed_digit hex m c ≡ Some (m * radix hex + digit_value c)
 pushed_is hex m c lt small = let e = and_from (ltb (digit_value c) (radix hex)) (ltb (m * radix hex + digit_value c) (2 ^ 64)) (lt-ltb _ _ lt) (lt-ltb _ _ small) in rw e refl
 
--- the digits behind the first
+-- the digits after the first
 abbrev rest_of : Bool → List ℕ → Option ℕ → Option ℕ
 rest_of hex cs o = elim o as (λ o. Option ℕ) [ None ↦ None | Some m ↦ digits_at hex m cs ]
 

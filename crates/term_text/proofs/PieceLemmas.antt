@@ -3,80 +3,80 @@ use Rattle.std.proofs.Common.{◌≡◌, ℕ, zero, suc, ◌+◌, ◌-◌, ◌*�
 use Rattle.std.specs.declared.cmp.Ordering.{Ordering}
 use Rattle.std.specs.declared.cmp.Ordering.TheVariants.{Less, Equal, Greater}
 use Rattle.std.proofs.lemmas.Bool.{le-leb, le-ltb, ltb-true, eqb-true}
-use Rattle.sym_terms.specs.Plain.{PlainSum, sum, Pieces, none, more, PlainAtom, alone}
+use Rattle.sym_terms.specs.Plain.{PlainSum, sum, Summands, none, more, PlainAtom, single_atom}
 use Rattle.sym_terms.specs.Order.{atom_cmp}
 use Rattle.sym_terms.specs.Codes.{atom_total}
 use Rattle.sym_terms.specs.Nodes.{nodes, nodes_of_pieces, nodes_of_atom}
-use Rattle.sym_terms.specs.Normal.{joined, plus_times_pieces, plus_times, plus, times, within, AreNormal, IsBefore}
+use Rattle.sym_terms.specs.Normal.{joined, plus_times_pieces, plus_times, plus, times, within_node_limit, AreNormal, IsBefore}
 use Rattle.term_text.specs.Text.{is_negative, magnitude}
-use Rattle.term_text.specs.Machine.{or_zero, signed, multiple, total}
+use Rattle.term_text.specs.Parser.{or_zero, signed, multiple, total}
 
 -- ---- pieces in a row
 
--- pieces, and others behind them
-abbrev pub append : Pieces → Pieces → Pieces
+-- pieces, and others after them
+abbrev pub append : Summands → Summands → Summands
 append none ys = ys
 append (more a k xs) ys = more a k (append xs ys)
 
--- nothing behind them
-pub append-none : (xs : Pieces) → append xs none ≡ xs
+-- nothing after them
+pub append-none : (xs : Summands) → append xs none ≡ xs
 append-none none = refl
 append-none (more a k xs) = ap (more a k) (append-none xs)
 
 -- appending groups either way
-pub append_assoc_pieces : (xs ys zs : Pieces) → append (append xs ys) zs ≡ append xs (append ys zs)
+pub append_assoc_pieces : (xs ys zs : Summands) → append (append xs ys) zs ≡ append xs (append ys zs)
 append_assoc_pieces none ys zs = refl
 append_assoc_pieces (more a k xs) ys zs = ap (more a k) (append_assoc_pieces xs ys zs)
 
 -- their nodes add up
-pub nodes-append : (xs ys : Pieces) → nodes_of_pieces (append xs ys) ≡ nodes_of_pieces xs + nodes_of_pieces ys
+pub nodes-append : (xs ys : Summands) → nodes_of_pieces (append xs ys) ≡ nodes_of_pieces xs + nodes_of_pieces ys
 nodes-append none ys = omega arith
 nodes-append (more a k xs) ys = omega (arith, nodes-append xs ys)
 
 -- each atom comes before this one
-abbrev pub AllBefore : Pieces → PlainAtom → Type 0
+abbrev pub AllBefore : Summands → PlainAtom → Type 0
 AllBefore none a = Unit {0}
 AllBefore (more b l ys) a = (atom_cmp b a ≡ Less) × AllBefore ys a
 
 -- each atom of the first comes before each of the second
-abbrev pub Apart : Pieces → Pieces → Type 0
+abbrev pub Apart : Summands → Summands → Type 0
 Apart ys none = Unit {0}
 Apart ys (more a k xs) = AllBefore ys a × Apart ys xs
 
 -- no pieces come before all
-pub apart_none : (xs : Pieces) → Apart none xs
+pub apart_none : (xs : Summands) → Apart none xs
 apart_none none = tt
 apart_none (more a k xs) = (tt, apart_none xs)
 
 -- an atom comes before each of these
-abbrev After : PlainAtom → Pieces → Type 0
+abbrev After : PlainAtom → Summands → Type 0
 After a none = Unit {0}
 After a (more b l ys) = (atom_cmp a b ≡ Less) × After a ys
 
--- what comes before an atom comes before those behind it
-before_more : (b a : PlainAtom) (xs : Pieces) (k : ℕ) → atom_cmp b a ≡ Less → IsBefore a xs → IsBefore b xs
+-- what comes before an atom comes before those after it
+before_more : (b a : PlainAtom) (xs : Summands) (k : ℕ) → atom_cmp b a ≡ Less → IsBefore a xs → IsBefore b xs
 before_more b a none k h i = tt
 before_more b a (more c l xs) k h i = atom_total.trans b a c h i
 
--- in normal form an atom comes before all behind it
-after_all : (a : PlainAtom) (xs : Pieces) → IsBefore a xs → AreNormal xs → After a xs
+-- in normal form an atom comes before all after it
+after_all : (a : PlainAtom) (xs : Summands) → IsBefore a xs → AreNormal xs → After a xs
 after_all a none h n = tt
 after_all a (more b l ys) h n = (h, after_all a ys (before_more a b ys l h n.3) n.4)
 
 -- one more that comes before
-all_before_push : (ys : Pieces) (a b : PlainAtom) (k : ℕ) → AllBefore ys b → atom_cmp a b ≡ Less
+all_before_push : (ys : Summands) (a b : PlainAtom) (k : ℕ) → AllBefore ys b → atom_cmp a b ≡ Less
     → AllBefore (append ys (more a k none)) b
 all_before_push none a b k h lt = (lt, tt)
 all_before_push (more c l ys) a b k h lt = (h.0, all_before_push ys a b k h.1 lt)
 
 -- one more that comes before all of these
-push_after : (ys : Pieces) (a : PlainAtom) (k : ℕ) (xs : Pieces) → Apart ys xs → After a xs
+push_after : (ys : Summands) (a : PlainAtom) (k : ℕ) (xs : Summands) → Apart ys xs → After a xs
     → Apart (append ys (more a k none)) xs
 push_after ys a k none p f = tt
 push_after ys a k (more b l xs) p f = (all_before_push ys a b k p.0 f.0, push_after ys a k xs p.1 f.1)
 
 -- the first of the pieces to come goes to those that were read
-pub apart_push : (ys : Pieces) (a : PlainAtom) (k : ℕ) (xs : Pieces) → Apart ys (more a k xs)
+pub apart_push : (ys : Summands) (a : PlainAtom) (k : ℕ) (xs : Summands) → Apart ys (more a k xs)
     → AreNormal (more a k xs) → Apart (append ys (more a k none)) xs
 apart_push ys a k xs p n = push_after ys a k xs p.1 (after_all a xs n.3 n.4)
 
@@ -87,56 +87,56 @@ joined_is : (a : PlainAtom) (k m : ℕ) → 0 < k → m ≡ k → joined a m non
 joined_is a zero m pos e = absurd (omega arith)
 joined_is a (suc k) m pos e = ap (λ (n : ℕ). joined a n none) e
 
--- a piece behind all others is appended
-plus_end : (ys : Pieces) (a : PlainAtom) (k : ℕ) → 0 < k → k < 2 ^ 64 → AllBefore ys a
+-- a piece after all others is appended
+plus_end : (ys : Summands) (a : PlainAtom) (k : ℕ) → 0 < k → k < 2 ^ 64 → AllBefore ys a
     → plus_times_pieces ys 1 (more a k none) ≡ append ys (more a k none)
 plus_end none a k pos lt h = joined_is a k (1 * k % 2 ^ 64) pos (omega arith)
 plus_end (more b l ys) a k pos lt h =
-    ap (λ (o : Ordering). elim o as (λ o. Pieces) [
+    ap (λ (o : Ordering). elim o as (λ o. Summands) [
       | Less ↦ more b l (plus_times_pieces ys 1 (more a k none))
       | Equal ↦ joined b ((l + 1 * k) % 2 ^ 64) (plus_times_pieces ys 1 none)
       | Greater ↦ joined a (1 * k % 2 ^ 64) (plus_times_pieces (more b l ys) 1 none)
     ]) h.0 ∙ ap (more b l) (plus_end ys a k pos lt h.1)
 
 -- an atom times a number
-times_alone : (a : PlainAtom) (k : ℕ) → 0 < k → k < 2 ^ 64 → times k (alone a) ≡ sum 0 (more a k none)
+times_alone : (a : PlainAtom) (k : ℕ) → 0 < k → k < 2 ^ 64 → times k (single_atom a) ≡ sum 0 (more a k none)
 unfolding plus_times
 times_alone a k pos lt = ap₂ sum (let e : (0 + k * 0) % 2 ^ 64 ≡ 0 = omega arith in e) (joined_is a k (k * 1 % 2 ^ 64) pos (omega arith))
 
 -- within the limit
-pub within_is : (a : PlainSum) → nodes a ≤ 32 → within a ≡ Some a
-unfolding within
+pub within_is : (a : PlainSum) → nodes a ≤ 32 → within_node_limit a ≡ Some a
+unfolding within_node_limit
 within_is a le = let e : leb (nodes a) 32 ≡ true = le-leb _ _ le in rw e refl
 
--- so is its multiple in the machine
+-- so is its multiple in the parser
 multiple_is : (a : PlainAtom) (k : ℕ) → 0 < k → k < 2 ^ 64 → nodes_of_atom a < 32
-    → multiple k (alone a) ≡ sum 0 (more a k none)
+    → multiple k (single_atom a) ≡ sum 0 (more a k none)
 multiple_is a k pos lt small = by_one (eqb k 1) refl
   where
     by_one : (b : Bool) → eqb k 1 ≡ b
-        → (if b then alone a else or_zero (within (times k (alone a)))) ≡ sum 0 (more a k none)
+        → (if b then single_atom a else or_zero (within_node_limit (times k (single_atom a)))) ≡ sum 0 (more a k none)
     by_one true e = ap (λ (n : ℕ). sum 0 (more a n none)) (sym (eqb-true k 1 e))
     by_one false e = rw (times_alone a k pos lt, within_is (sum 0 (more a k none)) (omega arith)) refl
 
--- the sum of pieces with one behind them
-plus_is : (ys : Pieces) (a : PlainAtom) (k : ℕ) → 0 < k → k < 2 ^ 64 → AllBefore ys a
+-- the sum of pieces with one after them
+plus_is : (ys : Summands) (a : PlainAtom) (k : ℕ) → 0 < k → k < 2 ^ 64 → AllBefore ys a
     → plus (sum 0 ys) (sum 0 (more a k none)) ≡ sum 0 (append ys (more a k none))
 unfolding plus_times
 plus_is ys a k pos lt h = ap (sum 0) (plus_end ys a k pos lt h)
 
--- an atom that comes behind all others
-pub total_atom : (n : ℕ) (ys : Pieces) (k : ℕ) (a : PlainAtom) → n ≤ 32 → 0 < k → k < 2 ^ 64
+-- an atom that comes after all others
+pub total_atom : (n : ℕ) (ys : Summands) (k : ℕ) (a : PlainAtom) → n ≤ 32 → 0 < k → k < 2 ^ 64
     → nodes_of_pieces ys + nodes_of_atom a < 32 → AllBefore ys a
-    → total n (sum 0 ys) k (alone a) ≡ sum 0 (append ys (more a k none))
+    → total n (sum 0 ys) k (single_atom a) ≡ sum 0 (append ys (more a k none))
 unfolding total
 total_atom n ys k a le pos lt small all =
     let few : ltb 32 n ≡ false = le-ltb _ _ le in
-    let whole : or_zero (within (plus (sum 0 ys) (sum 0 (more a k none)))) ≡ sum 0 (append ys (more a k none)) = rw (plus_is ys a k pos lt all, within_is (sum 0 (append ys (more a k none))) (omega (arith, nodes-append ys (more a k none)))) refl in
-    rw few (ap (λ (s : PlainSum). or_zero (within (plus (sum 0 ys) s))) (multiple_is a k pos lt (omega arith)) ∙ whole)
+    let whole : or_zero (within_node_limit (plus (sum 0 ys) (sum 0 (more a k none)))) ≡ sum 0 (append ys (more a k none)) = rw (plus_is ys a k pos lt all, within_is (sum 0 (append ys (more a k none))) (omega (arith, nodes-append ys (more a k none)))) refl in
+    rw few (ap (λ (s : PlainSum). or_zero (within_node_limit (plus (sum 0 ys) s))) (multiple_is a k pos lt (omega arith)) ∙ whole)
 
 -- ---- a constant is added, and signs
 
--- the magnitude behind the sign is the number
+-- the magnitude after the sign is the number
 pub signed_magnitude : (k : ℕ) → k < 2 ^ 64 → signed (is_negative k) (magnitude k) ≡ k
 signed_magnitude k lt = by_sign (is_negative k) refl
   where
@@ -153,20 +153,20 @@ magnitude_below k lt = by_sign (is_negative k) refl
     by_sign false e = lt
 
 -- nothing is added
-plus_none : (xs : Pieces) → plus_times_pieces xs 1 none ≡ xs
+plus_none : (xs : Summands) → plus_times_pieces xs 1 none ≡ xs
 plus_none none = refl
 plus_none (more a k xs) = refl
 
 -- a constant is added
-plus_constant : (xs : Pieces) (c : ℕ) → c < 2 ^ 64 → plus (sum 0 xs) (sum c none) ≡ sum c xs
+plus_constant : (xs : Summands) (c : ℕ) → c < 2 ^ 64 → plus (sum 0 xs) (sum c none) ≡ sum c xs
 unfolding plus_times
 plus_constant xs c lt = ap₂ sum (let e : (0 + 1 * c) % 2 ^ 64 ≡ c = omega arith in e) (plus_none xs)
 
 -- the constant of a term
-pub total_constant : (n : ℕ) (xs : Pieces) (c : ℕ) → n ≤ 32 → c < 2 ^ 64 → nodes_of_pieces xs < 32
+pub total_constant : (n : ℕ) (xs : Summands) (c : ℕ) → n ≤ 32 → c < 2 ^ 64 → nodes_of_pieces xs < 32
     → total n (sum 0 xs) 1 (sum (signed (is_negative c) (magnitude c)) none) ≡ sum c xs
 unfolding total
 total_constant n xs c le lt small =
     let few : ltb 32 n ≡ false = le-ltb _ _ le in
-    rw few (ap (λ (v : ℕ). or_zero (within (plus (sum 0 xs) (sum v none)))) (signed_magnitude c lt)
-    ∙ ap (λ (s : PlainSum). or_zero (within s)) (plus_constant xs c lt) ∙ ap or_zero (within_is (sum c xs) (omega arith)))
+    rw few (ap (λ (v : ℕ). or_zero (within_node_limit (plus (sum 0 xs) (sum v none)))) (signed_magnitude c lt)
+    ∙ ap (λ (s : PlainSum). or_zero (within_node_limit s)) (plus_constant xs c lt) ∙ ap or_zero (within_is (sum c xs) (omega arith)))

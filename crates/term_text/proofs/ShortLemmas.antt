@@ -1,7 +1,7 @@
 -- A term's text has at most 40 bytes for each node.
 use Rattle.std.proofs.Common.{ℕ, ◌+◌, ◌*◌, ◌^◌, ◌<◌, ◌≤◌, Bool, true, false, eqb, if◌then◌else◌, List, [], ◌∷◌, ◌++◌, length, arith}
 use Rattle.std.proofs.lemmas.List.{length-append}
-use Rattle.sym_terms.specs.Plain.{PlainSum, sum, Pieces, none, more, PlainAtom, symbol, fitted, paired}
+use Rattle.sym_terms.specs.Plain.{PlainSum, sum, Summands, none, more, PlainAtom, symbol, fitted, paired}
 use Rattle.sym_terms.specs.Nodes.{nodes, nodes_of_pieces, nodes_of_atom}
 use Rattle.sym_terms.specs.Normal.{IsNormal, AreNormal, IsNormalAtom, IsTerm}
 use Rattle.term_text.specs.Numbers.{number_text}
@@ -55,7 +55,7 @@ mutual
   sum_short (sum c xs) n =
       omega (arith, length-append (pieces_text true xs) (constant_text (are_none xs) c), pieces_short true xs n.1, constant_short (are_none xs) c n.0)
 
-  pieces_short : (first : Bool) (xs : Pieces) → AreNormal xs → length (pieces_text first xs) ≤ 40 * nodes_of_pieces xs
+  pieces_short : (first : Bool) (xs : Summands) → AreNormal xs → length (pieces_text first xs) ≤ 40 * nodes_of_pieces xs
   pieces_short first none n = omega arith
   pieces_short first (more a k xs) n =
       let piece = sign_text first k ++ (factor_text (magnitude k) ++ atom_text a) in

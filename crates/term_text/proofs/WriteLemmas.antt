@@ -36,7 +36,7 @@ piece_put o0 o1 o2 o3 all first xs i x is lt e1 e2 e3 so_far =
     ∙ append_assoc o0 (sign_text first x.1 ++ (factor_text (magnitude x.1) ++ atom_text (plain x.0))) rest
     ∙ ap (λ ps. o0 ++ pieces_text first ps) (sym (pieces_at xs i x is lt)) ∙ so_far
 
--- behind the last piece
+-- after the last piece
 pub pieces_put : (o all : List ℕ) (first : Bool) (xs : List (Atom × ℕ)) (i : ℕ) → length xs ≤ i
     → o ++ pieces_text first (pieces (drop i xs)) ≡ all → o ≡ all
 pieces_put o all first xs i le so_far = sym (append-nil o) ∙ ap (λ ps. o ++ pieces_text first ps) (sym (pieces_end xs i le)) ∙ so_far

@@ -1,7 +1,8 @@
+pub mod Bind
+pub mod Bytes
 pub mod Causes
 pub mod Numbers
 pub mod Names
 pub mod Text
-pub mod Machine
+pub mod Parser
 pub mod Reading
-pub mod Laws

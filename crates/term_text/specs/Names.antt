@@ -10,16 +10,18 @@ use Rattle.sym_terms.specs.declared.kinds.Pair.TheVariants.{And, Or, Xor, Mul, S
 use Rattle.sym_terms.specs.Plain.{IsSymbol}
 use Rattle.term_text.specs.declared.names.Keyword.{Keyword}
 use Rattle.term_text.specs.declared.names.Keyword.TheVariants as word
+use Rattle.term_text.specs.Bytes.{digit_0, digit_9, capital_a, capital_z, letter_a, letter_v, letter_z, open_paren, minus_sign}
 use Rattle.term_text.specs.Numbers.{numeral_at}
 
 -- digits and letters of either case
 abbrev pub is_word_byte : ℕ → Bool
 is_word_byte b =
-    (nat_le 48 b && nat_le b 57) || ((nat_le 65 b && nat_le b 90) || (nat_le 97 b && nat_le b 122))
+    (nat_le digit_0 b && nat_le b digit_9)
+    || ((nat_le capital_a b && nat_le b capital_z) || (nat_le letter_a b && nat_le b letter_z))
 
--- what a term is written with: these, and ( ) * + , -, which are 40 to 45
+-- what a term is written with: these, and ( ) * + , -, which are neighbours
 abbrev pub is_term_byte : ℕ → Bool
-is_term_byte b = is_word_byte b || (nat_le 40 b && nat_le b 45)
+is_term_byte b = is_word_byte b || (nat_le open_paren b && nat_le b minus_sign)
 
 -- the 64-bit registers by number (Intel SDM volume 2, table 3-1)
 abbrev pub register_names : List (List ℕ)
@@ -109,4 +111,4 @@ as_named (Some address) = Some (Named address)
 unfoldable pub symbol_at : List ℕ → Option Sym
 symbol_at [] = as_symbol (keyword_at [])
 symbol_at (b ∷ w) =
-    if b == 118 then as_named (numeral_at true w) else as_symbol (keyword_at (b ∷ w))
+    if b == letter_v then as_named (numeral_at true w) else as_symbol (keyword_at (b ∷ w))

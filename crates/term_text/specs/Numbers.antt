@@ -2,6 +2,7 @@
 use Rattle.std.specs.Prelude.{ℕ, ◌+◌, ◌*◌, ◌^◌, Bool, true, false, ◌&&◌, ◌==◌, nat_lt, if◌then◌else◌, List, [], ◌∷◌, ◌++◌, codes, Option, Some, None}
 use Rattle.std.specs.Char.{digit_value}
 use Rattle.std.specs.Fmt.{decimal, digits}
+use Rattle.term_text.specs.Bytes.{digit_0, letter_x}
 
 -- 0 to 9999 in decimal; others as `0x` and lower-case hexadecimal without leading zeros
 abbrev pub number_text : ℕ → List ℕ
@@ -38,4 +39,6 @@ abbrev pub number_at : List ℕ → Option ℕ
 number_at [] = None
 number_at (a ∷ []) = numeral_at false (a ∷ [])
 number_at (a ∷ b ∷ bytes) =
-    if (a == 48) && (b == 120) then numeral_at true bytes else numeral_at false (a ∷ b ∷ bytes)
+    if (a == digit_0) && (b == letter_x)
+    then numeral_at true bytes
+    else numeral_at false (a ∷ b ∷ bytes)

@@ -3,7 +3,8 @@ use Rattle.std.specs.Prelude.{ℕ, ◌-◌, ◌^◌, Bool, true, false, ◌&&◌
 use Rattle.std.specs.Fmt.{digits}
 use Rattle.sym_terms.specs.declared.kinds.Sym.{Sym}
 use Rattle.sym_terms.specs.declared.kinds.Sym.TheVariants.{Entry, Ra, FsBase, Named}
-use Rattle.sym_terms.specs.Plain.{PlainSum, sum, Pieces, none, more, PlainAtom, symbol, fitted, paired}
+use Rattle.sym_terms.specs.Plain.{PlainSum, sum, Summands, none, more, PlainAtom, symbol, fitted, paired}
+use Rattle.term_text.specs.Bytes.{open_paren, close_paren, comma_byte}
 use Rattle.term_text.specs.Numbers.{number_text}
 use Rattle.term_text.specs.Names.{fixed_name, fit_name, pair_name}
 
@@ -36,7 +37,7 @@ constant_text first c =
     if not first && (c == 0) then [] else sign_text first c ++ number_text (magnitude c)
 
 -- whether there are no atoms
-abbrev pub are_none : Pieces → Bool
+abbrev pub are_none : Summands → Bool
 are_none none = true
 are_none (more a k xs) = false
 
@@ -45,12 +46,13 @@ abbrev mutual
   pub sum_text : PlainSum → List ℕ
   sum_text (sum c xs) = pieces_text true xs ++ constant_text (are_none xs) c
 
-  pub pieces_text : Bool → Pieces → List ℕ
+  pub pieces_text : Bool → Summands → List ℕ
   pieces_text first none = []
   pieces_text first (more a k xs) =
       (sign_text first k ++ (factor_text (magnitude k) ++ atom_text a)) ++ pieces_text false xs
 
   pub atom_text : PlainAtom → List ℕ
   atom_text (symbol s) = symbol_text s
-  atom_text (fitted f a) = fit_name f ++ 40 ∷ (sum_text a ++ 41 ∷ [])
-  atom_text (paired p a b) = pair_name p ++ 40 ∷ (sum_text a ++ 44 ∷ (sum_text b ++ 41 ∷ []))
+  atom_text (fitted f a) = fit_name f ++ open_paren ∷ (sum_text a ++ close_paren ∷ [])
+  atom_text (paired p a b) =
+      pair_name p ++ open_paren ∷ (sum_text a ++ comma_byte ∷ (sum_text b ++ close_paren ∷ []))

@@ -14,7 +14,7 @@ pub enum TextCause {
     /// A line has no form, or can't stand where it is.
     #[error("BadLine")]
     BadLine,
-    /// The bytes at the place of a term are none, however loosely they are read.
+    /// The bytes at the state of a term are none, however loosely they are read.
     #[error("BadTerm")]
     BadTerm,
     /// A number or a term has another spelling.

@@ -5,7 +5,7 @@ ghost use Rattle.term_text.specs.Text.{sum_text};
 ghost use Rattle.term_text.specs.Reading.{Gives, term_at};
 
 use crate::cause::TextCause;
-use crate::machine::{MOST_NODES, run_machine};
+use crate::parser::{MOST_NODES, run_parser};
 use crate::writing::put_term;
 use std::alloc::Global;
 use sym_terms::Term;
@@ -26,24 +26,24 @@ pub fn read_term(alloc: Global, bytes: &[u8], buffer: &mut Vec<u8>) -> Result<Te
     // Which cause it is.
     ensures exact { Gives (λ t. t) result (term_at bytes.now) }
 {
-    judge(alloc, bytes, buffer)
+    canonical_term(alloc, bytes, buffer)
 }
 
 #[tactic(auto, unfolding(crate::specs::Reading::term_at))]
-fn judge(alloc: Global, bytes: &[u8], buffer: &mut Vec<u8>) -> Result<Term, TextCause>
+fn canonical_term(alloc: Global, bytes: &[u8], buffer: &mut Vec<u8>) -> Result<Term, TextCause>
     ensures { Gives (λ t. t) result (term_at bytes.now) }
 {
-    let Some(machine) = run_machine(alloc, bytes)? else {
+    let Some(parser) = run_parser(alloc, bytes)? else {
         return Err(TextCause::BadTerm);
     };
-    if machine.count > MOST_NODES {
+    if parser.count > MOST_NODES {
         return Err(TextCause::OverLimit);
     }
     // No value of another spelling is looked at: the one text decides.
     buffer.clear();
-    put_term(buffer, &machine.sum)?;
+    put_term(buffer, &parser.sum)?;
     if buffer.as_slice() == bytes {
-        Ok(machine.sum)
+        Ok(parser.sum)
     } else {
         Err(TextCause::NotCanonical)
     }

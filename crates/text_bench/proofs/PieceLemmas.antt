@@ -4,18 +4,18 @@ use Rattle.std.proofs.Math.ListN.{drop_of_length-le}
 use Rattle.std.proofs.lemmas.Grind.{flat_map-append}
 use Rattle.std.proofs.lemmas.List.{drop_more, length-append}
 use Rattle.std.specs.List.{flat_map}
-use Rattle.hoare_graph.specs.declared.graph.Function.{Function}
-use Rattle.hoare_graph.specs.declared.graph.Graph.{Graph}
+use Rattle.graph_data.specs.declared.graph.Function.{Function}
+use Rattle.graph_data.specs.declared.graph.Graph.{Graph}
 use Rattle.graph_lines.specs.declared.line.Line.TheVariants.{End}
 use Rattle.graph_lines.specs.Text.{line_text}
-use Rattle.open_graph.specs.Lines.{function_lines, graph_lines}
+use Rattle.graph_builder.specs.Lines.{function_lines, graph_lines}
 use Rattle.graph_text.specs.Text.{head, ended, lines_text, function_text, graph_text}
 
 -- the text of functions one after another
 abbrev pub functions_text : List Function → List ℕ
 functions_text fs = lines_text (flat_map function_lines fs)
 
--- the functions from one on are that one and those behind it
+-- the functions from one on are that one and those after it
 pub function_at : (fs : List Function) (n : ℕ) (f : Function) → n < length fs → f ≡ get_or fs n f
     → length (functions_text (drop n fs)) ≡ length (function_text f) + length (functions_text (drop (n + 1) fs))
 function_at fs n f h e =
@@ -37,7 +37,7 @@ graph_length g =
 abbrev pub most : ℕ
 most = 2 ^ 64 - 1
 
--- so many bytes of the whole, or the most, are counted before the functions from one on
+-- n bytes of the whole, or the most, are counted before the functions from one on
 abbrev pub Counted : ℕ → List Function → ℕ → ℕ → Type 0
 Counted whole fs n count =
     (count ≤ most) × (min (count + length (functions_text (drop n fs))) most ≡ min whole most)

@@ -6,13 +6,8 @@
 ghost use Rattle.std.specs.Prelude.{◌≡◌, ◌-◌, ◌^◌, IfOk, length, min};
 ghost use Rattle.graph_text.specs.Text.{graph_text};
 
-#[cfg(test)]
-mod graph_tests;
-#[cfg(test)]
-mod tests;
-
+use graph_data::Graph;
 use graph_text::{read_graph, write_function, write_graph};
-use hoare_graph::Graph;
 use std::alloc::Global;
 use std::io;
 use std::io::Read;

@@ -1,6 +1,6 @@
 use Rattle.std.proofs.Common.{◌≡◌, ◌++◌, ◌+◌, ◌<◌, ◌^◌, drop}
 use Rattle.mem_forest.specs.Plain.{cells, count}
-use Rattle.open_graph.specs.Lines.{node_lines}
+use Rattle.graph_builder.specs.Lines.{node_lines}
 use Rattle.graph_text.specs.Text.{lines_text}
 use Rattle.graph_text.proofs.write.+nodes.Given as goal
 

@@ -1,6 +1,6 @@
 use Rattle.std.proofs.Common.{◌≡◌, ◌++◌, drop}
 use Rattle.std.specs.List.{flat_map}
-use Rattle.open_graph.specs.Lines.{function_lines}
+use Rattle.graph_builder.specs.Lines.{function_lines}
 use Rattle.graph_text.specs.Text.{lines_text}
 use Rattle.graph_text.proofs.write.put_functions.Given as goal
 

@@ -1,5 +1,5 @@
 use Rattle.std.proofs.Common.{◌≡◌, ◌++◌, drop}
-use Rattle.open_graph.specs.Lines.{given_of, registers_lines}
+use Rattle.graph_builder.specs.Lines.{given_of, registers_lines}
 use Rattle.graph_text.specs.Text.{lines_text}
 use Rattle.graph_text.proofs.WriteLemmas.{given_from, to_give}
 use Rattle.graph_text.proofs.write.put_registers.Given as goal

@@ -1,0 +1,5 @@
+pub mod Limits
+pub mod Parts
+pub mod Order
+pub mod WellFormed
+pub mod Lookup

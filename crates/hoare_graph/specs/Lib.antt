@@ -1,5 +1,0 @@
-pub mod Parts
-pub mod Order
-pub mod WellFormed
-pub mod Lookup
-pub mod Verdict

@@ -1,6 +1,0 @@
-use Rattle.std.proofs.Common.{◌≡◌}
-use Rattle.predicates.specs.Entry.{entry_registers}
-use Rattle.open_graph.proofs.close.entry_registers.Given as goal
-
-abbrev pub invariant-loop-number : goal.invariant-loop-number
-invariant-loop-number l = l.regs.items ≡ entry_registers l.number

@@ -1,0 +1,3 @@
+pub mod LoopLemmas
+pub mod MarkLemmas
+pub mod CountLemmas

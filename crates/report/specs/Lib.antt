@@ -1,0 +1,4 @@
+pub mod Marks
+pub mod Coverage
+pub mod Counts
+pub mod Text

@@ -1,6 +1,0 @@
-use Rattle.std.proofs.Common.{◌≡◌, ◌≤◌, ◌-◌, [], take, drop}
-use Rattle.term_text.specs.Machine.{run, start}
-use Rattle.term_text.proofs.machine.run_machine.Given as goal
-
-abbrev pub invariant-loop-i : goal.invariant-loop-i
-invariant-loop-i l = (l.begin ≤ l.i) × (run l.machine (take (l.i - l.begin) (drop l.begin l.bytes)) (drop l.i l.bytes) ≡ run start [] l.bytes)

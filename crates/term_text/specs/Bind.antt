@@ -1,0 +1,8 @@
+-- Readings one after another, each of which may find nothing.
+use Rattle.std.specs.Prelude.{Option, Some, None}
+
+-- what is read next, where there was something to read
+infixl 10 ◌>>=◌
+abbrev pub ◌>>=◌ : {A B : Type 0} → Option A → (A → Option B) → Option B
+None >>= f = None
+(Some x) >>= f = f x

@@ -1,0 +1,12 @@
+use Rattle.graph_lines.proofs.LineLemmas.{line_reads, line_text_one}
+use Rattle.graph_lines.proofs.LengthLemmas.{line_short}
+use Rattle.text_laws.proofs.lines.line_laws.Goals as goal
+
+pub returns-clause-again : goal.returns-clause-again
+returns-clause-again c = line_reads
+
+pub returns-clause-one_text : goal.returns-clause-one_text
+returns-clause-one_text c = line_text_one
+
+pub returns-clause-short : goal.returns-clause-short
+returns-clause-short c = line_short
