@@ -1,0 +1,3 @@
+pub mod BackLemmas
+pub mod CallLemmas
+pub mod TargetLemmas

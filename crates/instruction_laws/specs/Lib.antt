@@ -1,0 +1,2 @@
+pub mod StepLaw
+pub mod Fork

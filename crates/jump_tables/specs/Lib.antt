@@ -1,0 +1,3 @@
+pub mod Ascending
+pub mod Table
+pub mod Targets

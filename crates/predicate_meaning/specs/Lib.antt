@@ -1,0 +1,3 @@
+pub mod Sat
+pub mod Begin
+pub mod Returns

@@ -1,0 +1,14 @@
+pub mod View
+pub mod Terms
+pub mod Names
+pub mod Drop
+pub mod Access
+pub mod Results
+pub mod Bounds
+pub mod Tables
+pub mod Moves
+pub mod Steps
+pub mod Executed
+pub mod Calls
+pub mod Cases
+pub mod Site
