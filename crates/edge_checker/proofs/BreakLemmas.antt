@@ -2,20 +2,19 @@
 use Rattle.std.proofs.Common.{◌≡◌, ℕ, ◌<◌, ◌≤◌, true, List, [], ◌∷◌, ◌++◌, map, Option, length, get_or, arith, refl, sym, ◌∙◌, ap, eqb}
 use Rattle.std.specs.List.{flat_map, enumerate_from}
 use Rattle.std.specs.Option.{option_map}
-use Rattle.elf_image.specs.declared.image.Image.{Image}
-use Rattle.hoare_graph.specs.declared.graph.Vertex.{Vertex}
-use Rattle.hoare_graph.specs.declared.graph.Site.{Site}
-use Rattle.hoare_graph.specs.declared.graph.Function.{Function}
-use Rattle.hoare_graph.specs.declared.verdict.Rule.{Rule}
-use Rattle.edge_checker.specs.declared.instruction.Instruction.{Instruction}
-use Rattle.edge_checker.specs.Instruction.{built_at}
-use Rattle.edge_checker.specs.Rules.{vertex_at}
-use Rattle.edge_checker.specs.Breaks.{first, unless, broken, edge_rules, edge_breaks, step_breaks, site_breaks, function_breaks}
-use Rattle.edge_checker.specs.Tests.{begins_unless_refused}
+use Rattle.graph_data.specs.declared.graph.Vertex.{Vertex}
+use Rattle.graph_data.specs.declared.graph.Site.{Site}
+use Rattle.graph_data.specs.declared.graph.Function.{Function}
+use Rattle.graph_verdict.specs.declared.verdict.Rule.{Rule}
+use Rattle.graph_rules.specs.declared.built.BuiltInstr.{BuiltInstr}
+use Rattle.graph_rules.specs.Built.{built_at}
+use Rattle.x86_instr.specs.declared.instr.Instr.{Instr}
+use Rattle.edge_checker.specs.Breaks.{vertex_at, first, unless, broken, edge_rules, edge_breaks, step_breaks, site_breaks, function_breaks}
+use Rattle.edge_checker.specs.Decisions.{begins_unless_refused}
 
 -- a function whose entry holds breaks what its sites break
-pub function_breaks-begins : (image : Image) (f : Function) → begins_unless_refused f.refused (vertex_at f (f.entry, 0)) ≡ true → function_breaks image f ≡ flat_map (λ s. site_breaks f s (built_at image s)) f.sites
-function_breaks-begins image f e = ap (λ b. map (broken f.entry f.entry 0 0) (unless b Rule.Entry) ++ flat_map (λ s. site_breaks f s (built_at image s)) f.sites) e
+pub function_breaks-begins : (look_up : ℕ → Option Instr) (f : Function) → begins_unless_refused f.refused (vertex_at f (f.entry, 0)) ≡ true → function_breaks look_up f ≡ flat_map (λ s. site_breaks f s (built_at look_up s)) f.sites
+function_breaks-begins look_up f e = ap (λ b. map (broken f.entry f.entry 0 0) (unless b Rule.Entry) ++ flat_map (λ s. site_breaks f s (built_at look_up s)) f.sites) e
 
 -- the first element of a list is the first of its images
 first-map : {A B : Type 0} (g : A → B) (xs : List A) → first (map g xs ++ []) ≡ option_map g (first xs)
@@ -29,7 +28,7 @@ only_one (x ∷ []) d some few = refl
 only_one (x ∷ y ∷ xs) d some few = absurd (omega arith)
 
 -- a step with one edge breaks first what that edge breaks
-pub step_breaks-one : (f : Function) (s : Site) (i : Instruction) (n : ℕ) (v : Vertex) (out : List (ℕ × ℕ)) (r : Option Rule) → out ≡ v.out → 1 ≤ length out → length out < 2 → r ≡ first (edge_rules f s i v.pred (get_or out 0 (0, 0))) → first (step_breaks f s i (n, v)) ≡ option_map (broken f.entry s.addr n 0) r
+pub step_breaks-one : (f : Function) (s : Site) (i : BuiltInstr) (n : ℕ) (v : Vertex) (out : List (ℕ × ℕ)) (r : Option Rule) → out ≡ v.out → 1 ≤ length out → length out < 2 → r ≡ first (edge_rules f s i v.pred (get_or out 0 (0, 0))) → first (step_breaks f s i (n, v)) ≡ option_map (broken f.entry s.addr n 0) r
 step_breaks-one f s i n v out r same some few e =
     let one : v.out ≡ get_or out 0 (0, 0) ∷ [] = sym same ∙ only_one out (0, 0) some few in
     ap (λ edges. first (map (broken f.entry s.addr n 0) (unless (eqb (length edges) 1) Rule.Cases) ++ flat_map (edge_breaks f s i (n, v)) (enumerate_from 0 edges))) one

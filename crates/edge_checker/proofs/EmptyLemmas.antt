@@ -1,8 +1,8 @@
 -- When lists that are joined are empty.
 use Rattle.std.proofs.Common.{◌≡◌, ℕ, ◌+◌, true, false, Bool, List, [], ◌∷◌, ◌++◌, map, None, refl, ◌↔◌}
 use Rattle.std.specs.List.{flat_map, enumerate_from}
-use Rattle.hoare_graph.specs.Parts.{Each}
-use Rattle.hoare_graph.specs.declared.verdict.Rule.{Rule}
+use Rattle.graph_data.specs.Parts.{Each}
+use Rattle.graph_verdict.specs.declared.verdict.Rule.{Rule}
 use Rattle.edge_checker.specs.Breaks.{first, unless}
 
 -- two lists joined

@@ -1,16 +1,16 @@
 -- What the parts of a well-formed graph are.
 use Rattle.std.proofs.Common.{◌≡◌, ℕ, zero, suc, ◌<◌, ◌^◌, eqb, refl, Bool, true, false, cond, List, [], ◌∷◌, map, length, Option, Some, None, sym, subst, arith, slice_get}
-use Rattle.std.specs.Prelude.{nat_le}
+use Rattle.std.specs.Prelude.{nat_le, option_and_then}
 use Rattle.std.specs.List.{find}
 use Rattle.std.proofs.lemmas.Bool.{and_parts, leb-true}
-use Rattle.hoare_graph.specs.declared.graph.Vertex.{Vertex}
-use Rattle.hoare_graph.specs.declared.graph.Site.{Site}
-use Rattle.hoare_graph.specs.declared.graph.Refused.{Refused}
-use Rattle.hoare_graph.specs.declared.graph.Function.{Function}
-use Rattle.hoare_graph.specs.Parts.{Each, Ascends}
-use Rattle.hoare_graph.specs.Lookup.{site_at}
-use Rattle.hoare_graph.specs.WellFormed.{IsPred, IsVertex, IsSite, IsFunction, HasBody}
-use Rattle.edge_checker.specs.Rules.{vertex_in, vertex_at}
+use Rattle.graph_data.specs.declared.graph.Vertex.{Vertex}
+use Rattle.graph_data.specs.declared.graph.Site.{Site}
+use Rattle.graph_data.specs.declared.graph.Refused.{Refused}
+use Rattle.graph_data.specs.declared.graph.Function.{Function}
+use Rattle.graph_data.specs.Parts.{Each, Ascends}
+use Rattle.graph_data.specs.Lookup.{site_at}
+use Rattle.graph_data.specs.WellFormed.{IsPred, IsVertex, IsSite, IsFunction, HasBody}
+use Rattle.edge_checker.specs.Breaks.{vertex_at}
 
 body_parts : (o : Option Refused) (f : Function) → HasBody o f → Each IsSite f.sites × Ascends (map (λ s. s.addr) f.sites)
 body_parts None f body = (body.sites, body.ascending)
@@ -45,7 +45,7 @@ each_placed P [] n y each e = absurd (cc)
 each_placed P (x ∷ xs) zero y each e = let same : x ≡ y = cc in subst P same each.0
 each_placed P (x ∷ xs) (suc n) y each e = each_placed P xs n y each.1 e
 
-vertex_formed : (n : ℕ) (o : Option Site) (v : Vertex) → ((s : Site) → o ≡ Some s → IsSite s) → vertex_in n o ≡ Some v → IsPred v.pred
+vertex_formed : (n : ℕ) (o : Option Site) (v : Vertex) → ((s : Site) → o ≡ Some s → IsSite s) → option_and_then (λ s. slice_get s.vertices n) o ≡ Some v → IsPred v.pred
 vertex_formed n None v formed e = absurd (cc)
 vertex_formed n (Some s) v formed e = (each_placed (IsVertex s.kind) s.vertices n v (formed s refl).vertices e).pred
 

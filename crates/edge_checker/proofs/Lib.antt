@@ -4,5 +4,6 @@ pub mod FormLemmas
 pub mod LevelLemmas
 pub mod BreakLemmas
 pub mod EmptyLemmas
-pub mod TestLemmas
+pub mod DecisionLemmas
 pub mod ValidLemmas
+pub mod VerdictLemmas

@@ -2,12 +2,12 @@
 ghost use Rattle.std.specs.Prelude.{◌≡◌, ℕ, IfOk};
 ghost use Rattle.std.specs.Option.{option_map};
 ghost use Rattle.predicates.specs.Missing.{missing};
-ghost use Rattle.edge_checker.specs.declared.instruction.Effect.TheVariants.{MoveImmediate};
-ghost use Rattle.edge_checker.specs.Step.{after};
+ghost use Rattle.graph_rules.specs.declared.built.Effect.TheVariants.{MoveImmediate};
+ghost use Rattle.graph_rules.specs.Step.{after};
 ghost use Rattle.edge_checker.specs.Breaks.{rule_of};
 
-use crate::instruction::Effect;
-use hoare_graph::Rule;
+use graph_rules::Effect;
+use graph_verdict::Rule;
 use predicates::{Conjunct, Pred};
 use std::alloc::Global;
 use sym_terms::{NoMemory, Term};

@@ -4,12 +4,12 @@ ghost use Rattle.std.specs.List.{list_all};
 ghost use Rattle.std.specs.Option.{option_copied};
 ghost use Rattle.mem_forest.specs.Plain.{cells};
 ghost use Rattle.sym_terms.specs.declared.kinds.Sym.TheVariants.{Entry, Ra};
-ghost use Rattle.sym_terms.specs.Plain.{alone, symbol};
-ghost use Rattle.edge_checker.specs.Simple.{knows_symbol};
-ghost use Rattle.edge_checker.specs.Rules.{preserved, register_of, top_of};
-ghost use Rattle.edge_checker.specs.Tests.{returns, are_entries, is_entry_node, is_entry_forest, is_entry};
+ghost use Rattle.sym_terms.specs.Plain.{single_atom, symbol};
+ghost use Rattle.graph_rules.specs.Simple.{knows_symbol};
+ghost use Rattle.predicate_meaning.specs.Returns.{saved_registers, return_cell};
+ghost use Rattle.edge_checker.specs.Decisions.{is_restored, returns, are_entries, is_entry_node, is_entry_forest, is_entry};
 
-use crate::simple::{has_no_node, is_top, knows_symbol};
+use crate::first_path::{has_no_node, is_top, knows_symbol};
 use mem_forest::{Node, Region};
 use predicates::Pred;
 use std::alloc::Global;
@@ -18,8 +18,11 @@ use sym_terms::{NoMemory, Sym, Term};
 /// The numbers of the sixteen registers.
 const REGISTERS: [u8; 16] = [0, 1, 2, 3, 4, 5, 6, 7, 8, 9, 10, 11, 12, 13, 14, 15];
 
-/// rbx, rsp, rbp and r12 to r15 (System V x86-64 psABI, section 3.2.1).
-const PRESERVED: [u8; 7] = [3, 4, 5, 12, 13, 14, 15];
+/// The stack pointer.
+const RSP: u8 = 4;
+
+/// rbx, rbp and r12 to r15 (System V x86-64 psABI, section 3.2.1).
+const SAVED: [u8; 6] = [3, 5, 12, 13, 14, 15];
 
 /// Whether the predicate is the entry predicate.
 pub fn is_entry(p: &Pred) -> bool
@@ -36,9 +39,9 @@ pub fn is_entry(p: &Pred) -> bool
 pub fn returns(alloc: Global, p: &Pred) -> Result<bool, NoMemory>
     ensures { IfOk result (λ r. r ≡ returns p.now) }
 {
-    let at = Term::symbol(alloc, Sym::Entry(4))?;
+    let at = Term::symbol(alloc, Sym::Entry(RSP))?;
     let top = Region { at, bytes: 8 };
-    Ok(have_entries(p) && has_return_address(p, &top))
+    Ok(is_restored(p, RSP) && are_restored(p) && has_return_address(p, &top))
 }
 
 fn are_entries(regs: &[Option<Term>]) -> bool
@@ -69,14 +72,16 @@ fn is_entry_node(node: &Node) -> bool
         && has_no_node(node.under.as_slice())
 }
 
-fn have_entries(p: &Pred) -> bool
-    ensures { result ≡ list_all (λ r. knows_symbol (Entry r) (register_of p.now r)) preserved }
+fn are_restored(p: &Pred) -> bool
+    ensures { result ≡ list_all (is_restored p.now) saved_registers }
 {
-    PRESERVED.iter().all(|r| has_entry(p, *r))
+    SAVED.iter().all(|r| is_restored(p, *r))
 }
 
-fn has_entry(p: &Pred, r: u8) -> bool
-    ensures { result ≡ knows_symbol (Entry r) (register_of p.now r) }
+// Whether the register has its own entry symbol.
+#[tactic(auto, unfolding(predicate_meaning::specs::Sat::register))]
+fn is_restored(p: &Pred, r: u8) -> bool
+    ensures { result ≡ is_restored p.now r }
 {
     match p.regs.get(usize::from(r)) {
         Some(term) => knows_symbol(Sym::Entry(r), term.as_ref()),
@@ -85,9 +90,9 @@ fn has_entry(p: &Pred, r: u8) -> bool
 }
 
 fn has_return_address(p: &Pred, top: &Region) -> bool
-    requires at { top.now.at ≡ alone (symbol (Entry 4)) }
+    requires at { top.now.at ≡ single_atom (symbol (Entry 4)) }
     requires bytes { top.now.bytes ≡ 8 }
-    ensures { result ≡ knows_symbol Ra (top_of p.now) }
+    ensures { result ≡ knows_symbol Ra (return_cell p.now) }
 {
     match p.forest.find(top) {
         Some(node) => knows_symbol(Sym::Ra, node.value.as_ref()),

@@ -2,17 +2,14 @@
 //! It trusts nothing that made the graph.
 #![tactic(auto)]
 
+mod built;
 mod checking;
 mod entails;
 mod entry;
-mod instruction;
+mod first_path;
 mod places;
-mod simple;
 mod sites;
 mod vertices;
 
-pub use checking::{check, validity};
+pub use checking::{check, check_function, verdict_laws};
 pub use sym_terms::NoMemory;
-
-#[cfg(test)]
-mod tests;

@@ -1,10 +1,10 @@
 // The vertex that an edge names.
 ghost use Rattle.std.specs.Prelude.{◌≡◌, map};
 ghost use Rattle.std.specs.Option.{option_copied};
-ghost use Rattle.hoare_graph.specs.Parts.{Ascends};
-ghost use Rattle.edge_checker.specs.Rules.{vertex_at};
+ghost use Rattle.graph_data.specs.Parts.{Ascends};
+ghost use Rattle.edge_checker.specs.Breaks.{vertex_at};
 
-use hoare_graph::{Function, Vertex};
+use graph_data::{Function, Vertex};
 
 /// The vertex with the number at the first site with the address.
 pub fn vertex_there(f: &Function, addr: u64, number: u32) -> Option<&Vertex>

@@ -1,19 +1,21 @@
 // The first rule that a site or a function breaks.
 ghost use Rattle.std.specs.Prelude.{◌≡◌, ℕ, ◌<◌, ◌^◌, map, flat_map, length, IfOk};
 ghost use Rattle.std.specs.List.{enumerate_from};
-ghost use Rattle.hoare_graph.specs.Parts.{Ascends};
-ghost use Rattle.hoare_graph.specs.WellFormed.{IsFunction};
-ghost use Rattle.edge_checker.specs.Breaks.{first, vertex_breaks, site_breaks, function_breaks, unbuilt_at, unbuilt_in};
-ghost use Rattle.edge_checker.specs.Tests.{begins, begins_unless_refused, fits};
-ghost use Rattle.edge_checker.specs.Instruction.{built_at};
-ghost use Rattle.edge_checker.specs.Rules.{vertex_at};
+ghost use Rattle.graph_data.specs.Parts.{Ascends};
+ghost use Rattle.graph_data.specs.WellFormed.{IsFunction};
+ghost use Rattle.edge_checker.specs.Breaks.{vertex_at, first, vertex_breaks, site_breaks, function_breaks, unbuilt_at, unbuilt_in};
+ghost use Rattle.edge_checker.specs.Decisions.{begins, begins_unless_refused, fits};
+ghost use Rattle.graph_rules.specs.Built.{built_at};
+ghost use Rattle.instr_at.specs.At.{instr_at};
 
+use crate::built::built_at;
 use crate::entry::is_entry;
-use crate::instruction::{Effect, Instruction, instruction_at};
 use crate::places::vertex_there;
 use crate::vertices::vertex_break;
 use elf_image::Image;
-use hoare_graph::{Broken, Function, Kind, Rule, Site};
+use graph_data::{Function, Kind, Site};
+use graph_rules::{BuiltInstr, Effect};
+use graph_verdict::{Broken, Rule};
 use std::alloc::Global;
 use sym_terms::NoMemory;
 
@@ -24,7 +26,7 @@ pub fn function_break(
     f: &Function,
 ) -> Result<Option<Broken>, NoMemory>
     requires { IsFunction f.now }
-    ensures { IfOk result (λ b. b ≡ first (function_breaks image.now f.now)) }
+    ensures { IfOk result (λ b. b ≡ first (function_breaks (instr_at image.now) f.now)) }
 {
     if !begins(f) {
         return Ok(Some(Broken {
@@ -46,7 +48,7 @@ pub fn function_break(
 
 /// The first site of the function that is not built.
 pub fn unbuilt_site(image: &Image, f: &Function) -> Option<u64>
-    ensures { result ≡ first (unbuilt_in image.now f.now) }
+    ensures { result ≡ first (unbuilt_in (instr_at image.now) f.now) }
 {
     for site in f.sites.as_slice() {
         let unbuilt = unbuilt_address(image, site);
@@ -59,9 +61,9 @@ pub fn unbuilt_site(image: &Image, f: &Function) -> Option<u64>
 
 // The address, where the site is not built.
 fn unbuilt_address(image: &Image, s: &Site) -> Option<u64>
-    ensures { result ≡ first (unbuilt_at s.now.addr (built_at image.now s.now)) }
+    ensures { result ≡ first (unbuilt_at s.now.addr (built_at (instr_at image.now) s.now)) }
 {
-    match instruction_at(image, s) {
+    match built_at(image, s) {
         Some(_) => None,
         None => Some(s.addr),
     }
@@ -98,9 +100,9 @@ fn site_break(
 ) -> Result<Option<Broken>, NoMemory>
     requires sites { Ascends (map (λ s. s.addr) f.now.sites) }
     requires count { length s.now.vertices < 2 ^ 32 }
-    ensures { IfOk result (λ b. b ≡ first (site_breaks f.now s.now (built_at image.now s.now))) }
+    ensures { IfOk result (λ b. b ≡ first (site_breaks f.now s.now (built_at (instr_at image.now) s.now))) }
 {
-    let Some(instruction) = instruction_at(image, s) else {
+    let Some(instruction) = built_at(image, s) else {
         return Ok(None);
     };
     if fits_kind(s.kind, instruction.effect) {
@@ -120,7 +122,7 @@ fn first_vertex_break(
     alloc: Global,
     f: &Function,
     s: &Site,
-    instruction: Instruction,
+    instruction: BuiltInstr,
 ) -> Result<Option<Broken>, NoMemory>
     requires sites { Ascends (map (λ s. s.addr) f.now.sites) }
     requires count { length s.now.vertices < 2 ^ 32 }

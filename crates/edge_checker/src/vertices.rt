@@ -1,13 +1,15 @@
 // The first rule that a vertex breaks.
 ghost use Rattle.std.specs.Prelude.{◌≡◌, ℕ, map, IfOk};
-ghost use Rattle.hoare_graph.specs.Parts.{Ascends};
+ghost use Rattle.graph_data.specs.Parts.{Ascends};
 ghost use Rattle.edge_checker.specs.Breaks.{first, broken, edge_rules, return_breaks, step_breaks, vertex_breaks};
 
+use crate::built::address_after;
 use crate::entails::missing_rule;
 use crate::entry::returns;
-use crate::instruction::{Instruction, address_after};
 use crate::places::vertex_there;
-use hoare_graph::{Broken, Function, Kind, Rule, Site, Vertex};
+use graph_data::{Function, Kind, Site, Vertex};
+use graph_rules::BuiltInstr;
+use graph_verdict::{Broken, Rule};
 use predicates::Pred;
 use std::alloc::Global;
 use sym_terms::NoMemory;
@@ -17,7 +19,7 @@ pub fn vertex_break(
     alloc: Global,
     f: &Function,
     s: &Site,
-    instruction: Instruction,
+    instruction: BuiltInstr,
     number: u32,
     v: &Vertex,
 ) -> Result<Option<Broken>, NoMemory>
@@ -53,7 +55,7 @@ fn step_break(
     alloc: Global,
     f: &Function,
     s: &Site,
-    instruction: Instruction,
+    instruction: BuiltInstr,
     number: u32,
     v: &Vertex,
 ) -> Result<Option<Broken>, NoMemory>
@@ -87,7 +89,7 @@ fn edge_rule(
     alloc: Global,
     f: &Function,
     s: &Site,
-    instruction: Instruction,
+    instruction: BuiltInstr,
     p: &Pred,
     edge: (u64, u32),
 ) -> Result<Option<Rule>, NoMemory>

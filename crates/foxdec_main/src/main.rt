@@ -1,24 +1,15 @@
-//! The program: its words, the order of its work, its statuses and texts, and the system's files
-//! and streams. It reads each file once and writes nothing before its output is complete.
+//! The program: the system's files by their names and its streams, the words after its name, and
+//! the exit status. All else is done by `foxdec` of the crate foxdec_commands.
 #![tactic(auto)]
 
 mod adapters;
-mod commands;
-mod ending;
-mod file_refusal;
-mod graph_fault;
-mod listing;
-mod top;
-mod verdict_line;
-mod words;
 
 use adapters::{FileShelf, StreamSink};
-use ending::{Refusal, say_refusal};
+use foxdec_commands::{foxdec, say_out_of_memory};
 use std::alloc::AllocError;
 use std::env;
 use std::process::ExitCode;
 use std::rt::{Env, Files};
-use top::foxdec;
 use wire_io::Sink;
 
 fn main(rt: HostRuntime) -> ExitCode {
@@ -26,11 +17,7 @@ fn main(rt: HostRuntime) -> ExitCode {
     let mut err = StreamSink::new(rt.stderr());
     match start(&rt, &mut out, &mut err) {
         Ok(status) => ExitCode::from(status),
-        Err(_) => {
-            let refusal = Refusal::OutOfMemory;
-            say_refusal(&mut err, &refusal);
-            ExitCode::from(refusal.status())
-        }
+        Err(_) => ExitCode::from(say_out_of_memory(&mut err)),
     }
 }
 
@@ -57,6 +44,3 @@ fn words_of<R: Env + AllocGlobal>(rt: &R) -> Result<Vec<String>, AllocError> {
     }
     Ok(words)
 }
-
-#[cfg(test)]
-mod tests;

@@ -5,9 +5,9 @@ use Rattle.std.specs.Option.{IsSomeAnd}
 use Rattle.std.proofs.lemmas.List.Elements.{All-head}
 use Rattle.simulation.specs.Registers as register
 use Rattle.simulation.specs.World as kinds
-use Rattle.simulation.specs.World.{World, Case, Kind, Step, Call, Return, Class, Ordinary, Calling, System, Returning}
+use Rattle.simulation.specs.World.{World, Rules, Case, Kind, Step, Call, Return, Class, Ordinary, Calling, System, Returning}
 use Rattle.simulation.specs.Graph.{site_at, callee, view_of}
-use Rattle.simulation.specs.Valid.{EdgesHold, StepHolds, AfterHolds, CallHolds, EachVertex, FunctionHolds, Valid}
+use Rattle.simulation.specs.Valid.{EdgesHold, StepHolds, AfterHolds, CallHolds, EachVertex, FunctionHolds, Valid, HasForms, IsFormedGraph}
 use Rattle.simulation.specs.Track.{Activation, Waiting, Live, Track, begin}
 use Rattle.simulation.specs.Moves.{Row, NoRun, Steps, Strays, Enters, Leaves, Resumes, Passes, renamed, with_name, resumed, left, moved}
 use Rattle.simulation.specs.Keeps.{Saved, BackFromCall, BackFrom, Apart, Kept, OutsideKeeps, CallerKeeps, IsFramed, RowKeeps, MomentKeeps}
@@ -32,28 +32,28 @@ saved_twice world first second third one two =
       fs = two.fs ∙ one.fs;
     }
 
-module _ (world : World) (laws : Laws world) (graph : world.Graph) (valid : Valid world graph) where
+module _ (world : World) (checks : Rules world) (laws : Laws world checks) (graph : world.Graph) (forms : IsFormedGraph world checks graph) (valid : Valid world checks graph) where
   -- a name leaves an activation lawful
   pub named_lawful :
-      (activation : Activation world) (address : ℕ) (value : Option ℕ) → IsLawful world graph activation →
-      IsLawful world graph (with_name world activation address value)
+      (activation : Activation world) (address : ℕ) (value : Option ℕ) → IsLawful world checks graph activation →
+      IsLawful world checks graph (with_name world activation address value)
   named_lawful activation address None lawful = lawful
   named_lawful activation address (Some value) lawful =
-      record { rules = lawful.rules; began = laws.begin.named activation.valuation activation.entry address value lawful.began }
+      record { rules = lawful.rules; forms = lawful.forms; began = laws.begin.named activation.valuation activation.entry address value lawful.began }
 
   -- the state at a verified return keeps the invariant, whoever the callers are
   left_holds :
-      (inner : Activation world) (next : world.State) (callers : List (Waiting world)) → IsLawful world graph inner →
+      (inner : Activation world) (next : world.State) (callers : List (Waiting world)) → IsLawful world checks graph inner →
       world.IsState next → world.reg next register.rsp ≡ (world.reg inner.entry register.rsp + 8) % 2 ^ 64 →
       Saved world inner.entry next → world.rip next ≡ world.return_address inner.valuation →
-      Chain world graph inner.entry callers → All (λ waiting. IsFramed world waiting.caller) callers →
-      CallerKeeps world inner.entry next callers → Invariant world graph (left world inner next callers)
+      Chain world checks graph inner.entry callers → All (λ waiting. IsFramed world waiting.caller) callers →
+      CallerKeeps world inner.entry next callers → Invariant world checks graph (left world inner next callers)
   left_holds inner next [] lawful state rsp saved rip chain framed keeps =
       record { safe = record { vertex = tt; returned = record { rsp = rsp; saved = saved; goes = rip } }; alive = tt }
   left_holds inner next (waiting ∷ callers) lawful state rsp saved rip chain framed keeps =
-      let waits : Waits world graph waiting inner.entry = chain.0 in
-      let spot : Spot world = record { activation = waiting.caller; state = waiting.call; site = waits.site; kind = Call waits.target; instr = waits.instr } in
-      let settled : Settled world graph spot =
+      let waits : Waits world checks graph waiting inner.entry = chain.0 in
+      let spot : Spot world checks = record { activation = waiting.caller; state = waiting.call; site = waits.site; kind = Call waits.target; instr = waits.instr } in
+      let settled : Settled world checks graph spot =
       record {
         lawful = waits.lawful;
         found = waits.found;
@@ -64,10 +64,10 @@ module _ (world : World) (laws : Laws world) (graph : world.Graph) (valid : Vali
         framed = All-head (λ (w : Waiting world). IsFramed world w.caller) waiting callers framed;
         vertex = waits.vertex;
       } in
-      let rules : EachVertex world (place world spot) (λ class. class ≡ Calling) (CallHolds world (place world spot) waits.target) =
-      here world graph spot settled (λ p. EachVertex world p (λ class. class ≡ Calling) (CallHolds world p waits.target)) (kind_rules world graph spot settled).1 in
-      let vertex : (v : world.Vertex) × CallHolds world (place world spot) waits.target v × Stands world (Call waits.target) (point world spot v) =
-      chosen world graph spot settled (CallHolds world (place world spot) waits.target) rules.each in
+      let rules : EachVertex world (place world checks spot) (λ class. class ≡ Calling) (CallHolds world checks (place world checks spot) waits.target) =
+      here world checks graph spot settled (λ p. EachVertex world p (λ class. class ≡ Calling) (CallHolds world checks p waits.target)) (kind_rules world checks graph spot settled).1 in
+      let vertex : (v : world.Vertex) × CallHolds world checks (place world checks spot) waits.target v × Stands world checks (Call waits.target) (point world checks spot v) =
+      chosen world checks graph spot settled (CallHolds world checks (place world checks spot) waits.target) rules.each in
       let push : Pushes world waits.instr waiting.call inner.entry =
       laws.push waits.instr waiting.call inner.entry waits.choice waits.state waits.at rules.class waits.next in
       let back : BackFromCall world waiting.call next =
@@ -77,8 +77,8 @@ module _ (world : World) (laws : Laws world) (graph : world.Graph) (valid : Vali
       let bytes : Kept world (world.keeps waits.site) waiting.caller.valuation (world.memory inner.entry) (world.memory next) =
       if_some_at (λ site. Kept world (world.keeps site) waiting.caller.valuation (world.memory inner.entry) (world.memory next))
       (site_at world waiting.caller.function (world.rip waiting.call)) waits.site waits.found keeps in
-      let after : HoldsAfter world (point world spot vertex.0) next =
-      laws.call (point world spot vertex.0) next waits.target vertex.2 rules.class
+      let after : HoldsAfter world checks (point world checks spot vertex.0) next =
+      laws.call (point world checks spot vertex.0) next waits.target vertex.2 rules.class
       (record {
         keeps = vertex.1.after.keeps;
         pairs = waits.pairs;
@@ -88,7 +88,7 @@ module _ (world : World) (laws : Laws world) (graph : world.Graph) (valid : Vali
       back in
       record {
         safe = record {
-          vertex = resumes world graph spot settled laws vertex.0 next vertex.1.after to_next after;
+          vertex = resumes world checks graph spot settled laws vertex.0 next vertex.1.after to_next after;
           returned = record {
             rsp = rsp;
             saved = saved;
@@ -105,23 +105,23 @@ module _ (world : World) (laws : Laws world) (graph : world.Graph) (valid : Vali
         };
       }
 
-  module _ (track : Track world) (holds : Invariant world graph track) (moment : MomentKeeps world track) where
+  module _ (track : Track world) (holds : Invariant world checks graph track) (moment : MomentKeeps world track) where
     -- a live track of the invariant is alive
-    alive : track.status ≡ Live → IsAlive world graph track
-    alive live = subst (λ status. WhileLive status (IsAlive world graph track)) live holds.alive
+    alive : track.status ≡ Live → IsAlive world checks graph track
+    alive live = subst (λ status. WhileLive status (IsAlive world checks graph track)) live holds.alive
 
     -- a live track of the invariant stands in a vertex
     in_vertex : track.status ≡ Live → InVertex world track.inner track.state
     in_vertex live = subst (λ status. WhileLive status (InVertex world track.inner track.state)) live holds.safe.vertex
 
     -- the innermost activation at a site
-    abbrev spot_at : world.Site → Kind → world.Instr → Spot world
+    abbrev spot_at : world.Site → Kind → world.Instr → Spot world checks
     spot_at site kind instr =
         record { activation = track.inner; state = track.state; site = site; kind = kind; instr = instr }
 
     settled :
         (site : world.Site) (kind : Kind) (instr : world.Instr) → Here world graph track site kind instr →
-        Settled world graph (spot_at site kind instr)
+        Settled world checks graph (spot_at site kind instr)
     settled site kind instr now =
         record {
           lawful = (alive now.live).lawful;
@@ -131,7 +131,7 @@ module _ (world : World) (laws : Laws world) (graph : world.Graph) (valid : Vali
           state = (alive now.live).state;
           loaded = moment.loaded;
           framed = moment.inner;
-          vertex = present_at (λ other. Any (SatAt world (spot_at site kind instr)) (world.vertices other)) (site_at world track.inner.function (world.rip track.state)) site now.found (in_vertex now.live);
+          vertex = present_at (λ other. Any (SatAt world checks (spot_at site kind instr)) (world.vertices other)) (site_at world track.inner.function (world.rip track.state)) site now.found (in_vertex now.live);
         }
 
     -- after a step the innermost activation is in a vertex
@@ -141,64 +141,64 @@ module _ (world : World) (laws : Laws world) (graph : world.Graph) (valid : Vali
         Apart world (world.seps site) (renamed world track.inner.valuation (world.rip track.state) (world.named_value track.state instr next)) →
         InVertex world (with_name world track.inner (world.rip track.state) (world.named_value track.state instr next)) next
     step_lands site instr next choice now leads pairs =
-        let spot : Spot world = spot_at site Step instr in
-        let at : Settled world graph spot = settled site Step instr now in
-        let rules : EachVertex world (place world spot) (λ class. class ≡ Ordinary) (StepHolds world (place world spot)) =
-        here world graph spot at (λ p. EachVertex world p (λ class. class ≡ Ordinary) (StepHolds world p)) (kind_rules world graph spot at) in
-        let vertex : (v : world.Vertex) × StepHolds world (place world spot) v × Stands world Step (point world spot v) =
-        chosen world graph spot at (StepHolds world (place world spot)) rules.each in
-        let cases : (cases : List (Case world.Pred)) × (world.cases (view_of world track.inner.function site) instr (world.pred vertex.0) ≡ Some cases) × EdgesHold world track.inner.function cases (world.out vertex.0) =
-        present (λ cases. EdgesHold world track.inner.function cases (world.out vertex.0)) (world.cases (view_of world track.inner.function site) instr (world.pred vertex.0)) vertex.1.cases in
-        lands world graph laws (with_name world track.inner (world.rip track.state) (world.named_value track.state instr next)) cases.0 (world.out vertex.0) next at.lawful.rules cases.2
-        (laws.step (point world spot vertex.0) choice next cases.0 vertex.2 rules.class vertex.1.fork leads pairs cases.1)
+        let spot : Spot world checks = spot_at site Step instr in
+        let at : Settled world checks graph spot = settled site Step instr now in
+        let rules : EachVertex world (place world checks spot) (λ class. class ≡ Ordinary) (StepHolds world checks (place world checks spot)) =
+        here world checks graph spot at (λ p. EachVertex world p (λ class. class ≡ Ordinary) (StepHolds world checks p)) (kind_rules world checks graph spot at) in
+        let vertex : (v : world.Vertex) × StepHolds world checks (place world checks spot) v × Stands world checks Step (point world checks spot v) =
+        chosen world checks graph spot at (StepHolds world checks (place world checks spot)) rules.each in
+        let cases : (cases : List (Case world.Pred)) × (checks.cases (view_of world track.inner.function site) instr (world.pred vertex.0) ≡ Some cases) × EdgesHold world checks track.inner.function cases (world.out vertex.0) =
+        present (λ cases. EdgesHold world checks track.inner.function cases (world.out vertex.0)) (checks.cases (view_of world track.inner.function site) instr (world.pred vertex.0)) vertex.1.cases in
+        lands world checks graph laws (with_name world track.inner (world.rip track.state) (world.named_value track.state instr next)) cases.0 (world.out vertex.0) next (at.lawful.rules, at.lawful.forms) cases.2
+        (laws.step (point world checks spot vertex.0) choice next cases.0 vertex.2 rules.class vertex.1.fork leads pairs cases.1)
 
     -- after an outside move the innermost activation is in a vertex
     outside_lands :
         (site : world.Site) (instr : world.Instr) (next : world.State) → Here world graph track site kinds.Outside instr →
         OutsideKeeps world track site instr next → InVertex world (resumed world track.inner track.state next) next
     outside_lands site instr next now keeps =
-        let spot : Spot world = spot_at site kinds.Outside instr in
-        let at : Settled world graph spot = settled site kinds.Outside instr now in
-        let rules : EachVertex world (place world spot) (λ class. (class ≡ Calling) ⊎ (class ≡ System)) (AfterHolds world (place world spot)) =
-        here world graph spot at (λ p. EachVertex world p (λ class. (class ≡ Calling) ⊎ (class ≡ System)) (AfterHolds world p)) (kind_rules world graph spot at) in
-        let vertex : (v : world.Vertex) × AfterHolds world (place world spot) v × Stands world kinds.Outside (point world spot v) =
-        chosen world graph spot at (AfterHolds world (place world spot)) rules.each in
-        let back : ComesBack world (point world spot vertex.0) next =
+        let spot : Spot world checks = spot_at site kinds.Outside instr in
+        let at : Settled world checks graph spot = settled site kinds.Outside instr now in
+        let rules : EachVertex world (place world checks spot) (λ class. (class ≡ Calling) ⊎ (class ≡ System)) (AfterHolds world checks (place world checks spot)) =
+        here world checks graph spot at (λ p. EachVertex world p (λ class. (class ≡ Calling) ⊎ (class ≡ System)) (AfterHolds world checks p)) (kind_rules world checks graph spot at) in
+        let vertex : (v : world.Vertex) × AfterHolds world checks (place world checks spot) v × Stands world checks kinds.Outside (point world checks spot v) =
+        chosen world checks graph spot at (AfterHolds world checks (place world checks spot)) rules.each in
+        let back : ComesBack world checks (point world checks spot vertex.0) next =
         record { keeps = vertex.1.keeps; pairs = keeps.pairs; state = keeps.state; regions = keeps.regions } in
-        let after : (world.class_of instr ≡ Calling) ⊎ (world.class_of instr ≡ System) → HoldsAfter world (point world spot vertex.0) next =
+        let after : (world.class_of instr ≡ Calling) ⊎ (world.class_of instr ≡ System) → HoldsAfter world checks (point world checks spot vertex.0) next =
         elim [
           | inl calling ↦
-              laws.outside (point world spot vertex.0) next vertex.2 calling back
+              laws.outside (point world checks spot vertex.0) next vertex.2 calling back
               (subst (λ class. BackFrom world class track.state next) calling keeps.back)
           | inr system ↦
-              laws.syscall (point world spot vertex.0) next vertex.2 system back
+              laws.syscall (point world checks spot vertex.0) next vertex.2 system back
               (subst (λ class. BackFrom world class track.state next) system keeps.back)
         ] in
-        resumes world graph spot at laws vertex.0 next vertex.1 keeps.rip (after rules.class)
+        resumes world checks graph spot at laws vertex.0 next vertex.1 keeps.rip (after rules.class)
 
     -- a return keeps the invariant
     return_holds :
         (site : world.Site) (instr : world.Instr) (next : world.State) (choice : ℕ) → Here world graph track site Return instr →
         world.next track.state instr choice ≡ Some next → CallerKeeps world track.inner.entry next track.callers →
-        Invariant world graph (left world track.inner next track.callers)
+        Invariant world checks graph (left world track.inner next track.callers)
     return_holds site instr next choice now leads keeps =
-        let spot : Spot world = spot_at site Return instr in
-        let at : Settled world graph spot = settled site Return instr now in
-        let Returns : world.Vertex → Type 0 = λ vertex. world.Returns (world.pred vertex) in
-        let rules : EachVertex world (place world spot) (λ class. class ≡ Returning) Returns =
-        here world graph spot at (λ p. EachVertex world p (λ class. class ≡ Returning) Returns) (kind_rules world graph spot at) in
-        let vertex : (v : world.Vertex) × Returns v × Stands world Return (point world spot v) = chosen world graph spot at Returns rules.each in
-        let restores : Restores world (point world spot vertex.0) next =
-        laws.return (point world spot vertex.0) choice next vertex.2 rules.class vertex.1 leads in
+        let spot : Spot world checks = spot_at site Return instr in
+        let at : Settled world checks graph spot = settled site Return instr now in
+        let Returns : world.Vertex → Type 0 = λ vertex. checks.Returns (world.pred vertex) in
+        let rules : EachVertex world (place world checks spot) (λ class. class ≡ Returning) Returns =
+        here world checks graph spot at (λ p. EachVertex world p (λ class. class ≡ Returning) Returns) (kind_rules world checks graph spot at) in
+        let vertex : (v : world.Vertex) × Returns v × Stands world checks Return (point world checks spot v) = chosen world checks graph spot at Returns rules.each in
+        let restores : Restores world (point world checks spot vertex.0) next =
+        laws.return (point world checks spot vertex.0) choice next vertex.2 rules.class vertex.1 leads in
         left_holds track.inner next track.callers at.lawful (laws.state track.state next instr choice at.state now.instr_is leads)
         restores.rsp restores.saved restores.rip (alive now.live).chain moment.callers keeps
 
     -- what a call begins: the callee in its entry vertex, and a caller that waits for it
     pub record Enter (site : world.Site) (function : world.Function) (next : world.State) : Type 0 where
       pub vertex : InVertex world (begin world function next) next
-      pub lawful : IsLawful world graph (begin world function next)
+      pub lawful : IsLawful world checks graph (begin world function next)
       pub state : world.IsState next
-      pub waits : Waits world graph (record { caller = track.inner; call = track.state }) next
+      pub waits : Waits world checks graph (record { caller = track.inner; call = track.state }) next
 
     call_enters :
         (site : world.Site) (instr : world.Instr) (function : world.Function) (next : world.State) (target choice : ℕ) →
@@ -206,19 +206,19 @@ module _ (world : World) (laws : Laws world) (graph : world.Graph) (valid : Vali
         world.next track.state instr choice ≡ Some next → Apart world (world.seps site) track.inner.valuation →
         Enter site function next
     call_enters site instr function next target choice now called leads pairs =
-        let spot : Spot world = spot_at site (Call target) instr in
-        let at : Settled world graph spot = settled site (Call target) instr now in
-        let rules : EachVertex world (place world spot) (λ class. class ≡ Calling) (CallHolds world (place world spot) target) =
-        here world graph spot at (λ p. EachVertex world p (λ class. class ≡ Calling) (CallHolds world p target)) (kind_rules world graph spot at).1 in
-        let vertex : (v : world.Vertex) × CallHolds world (place world spot) target v × Stands world (Call target) (point world spot v) =
-        chosen world graph spot at (CallHolds world (place world spot) target) rules.each in
+        let spot : Spot world checks = spot_at site (Call target) instr in
+        let at : Settled world checks graph spot = settled site (Call target) instr now in
+        let rules : EachVertex world (place world checks spot) (λ class. class ≡ Calling) (CallHolds world checks (place world checks spot) target) =
+        here world checks graph spot at (λ p. EachVertex world p (λ class. class ≡ Calling) (CallHolds world checks p target)) (kind_rules world checks graph spot at).1 in
+        let vertex : (v : world.Vertex) × CallHolds world checks (place world checks spot) target v × Stands world checks (Call target) (point world checks spot v) =
+        chosen world checks graph spot at (CallHolds world checks (place world checks spot) target) rules.each in
         let goes : world.rip next ≡ target =
-        laws.target (point world spot vertex.0) choice next target vertex.2 rules.class vertex.1.goes leads in
-        let callee_rules : FunctionHolds world graph function × (world.entry function ≡ target) = callee_holds world graph target function valid called in
+        laws.target (point world checks spot vertex.0) choice next target vertex.2 rules.class vertex.1.goes leads in
+        let callee_rules : (FunctionHolds world checks graph function × HasForms world checks function) × (world.entry function ≡ target) = callee_holds world checks graph target function forms valid called in
         let state : world.IsState next = laws.state track.state next instr choice at.state now.instr_is leads in
         record {
-          vertex = begins world graph laws function next callee_rules.0 state (callee_rules.1 ∙ sym goes);
-          lawful = record { rules = callee_rules.0; began = laws.begin.fresh next };
+          vertex = begins world checks graph laws function next callee_rules.0 state (callee_rules.1 ∙ sym goes);
+          lawful = record { rules = callee_rules.0.0; forms = callee_rules.0.1; began = laws.begin.fresh next state };
           state = state;
           waits = record {
             lawful = at.lawful;
@@ -240,7 +240,7 @@ module _ (world : World) (laws : Laws world) (graph : world.Graph) (valid : Vali
     -- each row keeps the invariant
     pub row_holds :
         (row : Row world) → RowFacts world graph track row → RowKeeps world track row →
-        IfSome (moved world track row) (Invariant world graph)
+        IfSome (moved world track row) (Invariant world checks graph)
     row_holds NoRun facts keeps = tt
     row_holds (Steps site instr next) facts keeps =
         record {

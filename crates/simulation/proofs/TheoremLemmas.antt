@@ -2,8 +2,8 @@
 use Rattle.std.proofs.Common.{◌≡◌, List, [], ◌∷◌, refl, ◌∙◌}
 use Rattle.std.specs.Prelude.{Option, Some, None, ◌++◌, IfSome}
 use Rattle.std.specs.Option.{IsSomeAnd, option_and_then}
-use Rattle.simulation.specs.World.{World}
-use Rattle.simulation.specs.Valid.{FunctionHolds, Valid}
+use Rattle.simulation.specs.World.{World, Rules}
+use Rattle.simulation.specs.Valid.{FunctionHolds, Valid, HasForms, IsFormedGraph}
 use Rattle.simulation.specs.Track.{Activation, Waiting, Track, start, outermost}
 use Rattle.simulation.specs.Moves.{Move, Row, NoRun, Steps, Strays, Enters, Leaves, Resumes, Passes, with_name, resumed, left, moved, row, run}
 use Rattle.simulation.specs.Keeps.{Keeps}
@@ -16,48 +16,48 @@ use Rattle.simulation.proofs.GraphLemmas.{begins, callee_holds}
 use Rattle.simulation.proofs.RowLemmas.{row_facts}
 use Rattle.simulation.proofs.InvariantLemmas.{row_holds}
 
-module _ (world : World) where
+module _ (world : World) (checks : Rules world) where
   -- one move keeps the invariant
-  pub one_move : OneMove world
-  one_move laws graph valid track move holds moment keeps =
-      row_holds world laws graph valid track holds moment (row world graph track move) (row_facts world graph track move) keeps
+  pub one_move : OneMove world checks
+  one_move laws graph forms valid track move holds moment keeps =
+      row_holds world checks laws graph forms valid track holds moment (row world graph track move) (row_facts world graph track move) keeps
 
   -- the invariant holds at a start
-  pub at_start : HoldsAtStart world
-  at_start laws graph valid state function range called =
-      let rules : FunctionHolds world graph function × (world.entry function ≡ world.rip state) = callee_holds world graph (world.rip state) function valid called in
+  pub at_start : HoldsAtStart world checks
+  at_start laws graph forms valid state function range called =
+      let rules : (FunctionHolds world checks graph function × HasForms world checks function) × (world.entry function ≡ world.rip state) = callee_holds world checks graph (world.rip state) function forms valid called in
       record {
-        safe = record { vertex = begins world graph laws function state rules.0 range rules.1; returned = tt };
-        alive = record { state = range; lawful = record { rules = rules.0; began = laws.begin.fresh state }; chain = tt };
+        safe = record { vertex = begins world checks graph laws function state rules.0 range rules.1; returned = tt };
+        alive = record { state = range; lawful = record { rules = rules.0.0; forms = rules.0.1; began = laws.begin.fresh state range }; chain = tt };
       }
 
-  module _ (laws : Laws world) (graph : world.Graph) (valid : Valid world graph) where
+  module _ (laws : Laws world checks) (graph : world.Graph) (forms : IsFormedGraph world checks graph) (valid : Valid world checks graph) where
     -- a run that keeps what is printed keeps the invariant
     pub from_track :
-        (moves : List (Move world)) (track : Track world) → Invariant world graph track → Keeps world graph track moves →
-        IsSomeAnd (run world graph track moves) (Invariant world graph)
+        (moves : List (Move world)) (track : Track world) → Invariant world checks graph track → Keeps world graph track moves →
+        IsSomeAnd (run world graph track moves) (Invariant world checks graph)
     from_track [] track holds keeps = holds
     from_track (move ∷ moves) track holds keeps =
-        go (moved world track (row world graph track move)) (one_move laws graph valid track move holds keeps.0 keeps.1) keeps.2
+        go (moved world track (row world graph track move)) (one_move laws graph forms valid track move holds keeps.0 keeps.1) keeps.2
         (λ later here rest. from_track moves later here rest)
       where
         go :
-            (o : Option (Track world)) → IfSome o (Invariant world graph) → IsSomeAnd o (λ later. Keeps world graph later moves) →
-            ((later : Track world) → Invariant world graph later → Keeps world graph later moves → IsSomeAnd (run world graph later moves) (Invariant world graph)) →
-            IsSomeAnd (option_and_then (λ later. run world graph later moves) o) (Invariant world graph)
+            (o : Option (Track world)) → IfSome o (Invariant world checks graph) → IsSomeAnd o (λ later. Keeps world graph later moves) →
+            ((later : Track world) → Invariant world checks graph later → Keeps world graph later moves → IsSomeAnd (run world graph later moves) (Invariant world checks graph)) →
+            IsSomeAnd (option_and_then (λ later. run world graph later moves) o) (Invariant world checks graph)
         go None here rest on = rest
         go (Some later) here rest on = on later here rest
 
   -- the invariant holds at the end of each run that keeps what is printed
-  pub throughout : HoldsThroughout world
-  throughout laws graph valid state function range called moves keeps =
-      from_track laws graph valid moves (start world function state) (at_start laws graph valid state function range called) keeps
+  pub throughout : HoldsThroughout world checks
+  throughout laws graph forms valid state function range called moves keeps =
+      from_track laws graph forms valid moves (start world function state) (at_start laws graph forms valid state function range called) keeps
 
   -- the theorem
-  pub simulates : Simulates world
-  simulates laws graph valid state function range called moves keeps =
-      present_weaker (Invariant world graph) (Safe world) (run world graph (start world function state) moves)
-      (λ track holds. holds.safe) (throughout laws graph valid state function range called moves keeps)
+  pub simulates : Simulates world checks
+  simulates laws graph forms valid state function range called moves keeps =
+      present_weaker (Invariant world checks graph) (Safe world) (run world graph (start world function state) moves)
+      (λ track holds. holds.safe) (throughout laws graph forms valid state function range called moves keeps)
 
   -- each beginning of a run keeps what the run keeps
   pub beginnings : Beginnings world

@@ -1,17 +1,18 @@
 -- What holds of a track at each moment, beside Safe: how its activations hang together.
 use Rattle.std.specs.Prelude.{◌≡◌, ℕ, Some, List, [], ◌∷◌, Any}
-use Rattle.simulation.specs.World.{World, Call}
+use Rattle.simulation.specs.World.{World, Rules, Call}
 use Rattle.simulation.specs.Graph.{site_at}
-use Rattle.simulation.specs.Valid.{FunctionHolds}
+use Rattle.simulation.specs.Valid.{FunctionHolds, HasForms}
 use Rattle.simulation.specs.Track.{Activation, Waiting, Track}
 use Rattle.simulation.specs.Keeps.{Apart}
 use Rattle.simulation.specs.Safe.{WhileLive, Safe}
 
-module _ (world : World) (graph : world.Graph) where
+module _ (world : World) (checks : Rules world) (graph : world.Graph) where
   -- the activation's function keeps the rules, and its valuation has the symbols of its entry
   pub record IsLawful (activation : Activation world) : Type 0 where
-    pub rules : FunctionHolds world graph activation.function
-    pub began : world.Began activation.valuation activation.entry
+    pub rules : FunctionHolds world checks graph activation.function
+    pub forms : HasForms world checks activation.function
+    pub began : checks.Began activation.valuation activation.entry
 
   -- a caller waits at a `call` site for the callee that began in the entry state
   pub record Waits (waiting : Waiting world) (entry : world.State) : Type 0 where

@@ -1,9 +1,9 @@
 -- The theorem over runs, and what later theorems take from its proof.
 use Rattle.std.specs.Prelude.{◌≡◌, Some, List, ◌++◌, IfSome}
 use Rattle.std.specs.Option.{IsSomeAnd}
-use Rattle.simulation.specs.World.{World}
+use Rattle.simulation.specs.World.{World, Rules}
 use Rattle.simulation.specs.Graph.{callee}
-use Rattle.simulation.specs.Valid.{Valid}
+use Rattle.simulation.specs.Valid.{Valid, IsFormedGraph}
 use Rattle.simulation.specs.Track.{Activation, Track, start, outermost}
 use Rattle.simulation.specs.Moves.{Move, moved, row, run}
 use Rattle.simulation.specs.Keeps.{RowKeeps, MomentKeeps, Keeps}
@@ -24,36 +24,6 @@ module _ (world : World) where
   abbrev pub SafeRuns : world.Graph → Type 0
   SafeRuns graph = AtEachEnd graph (Safe world)
 
-  -- every valid graph has safe runs alone
-  abbrev pub ValidIsSafe : Type 0
-  ValidIsSafe = (graph : world.Graph) → Valid world graph → SafeRuns graph
-
-  -- the theorem: the laws of one instruction make every valid graph safe
-  abbrev pub Simulates : Type 0
-  Simulates = Laws world → ValidIsSafe
-
-  -- the invariant holds at the end of every such run
-  abbrev pub HoldsThroughout : Type 0
-  HoldsThroughout =
-      Laws world → (graph : world.Graph) → Valid world graph →
-      AtEachEnd graph (Invariant world graph)
-
-  -- the invariant holds at every start
-  abbrev pub HoldsAtStart : Type 0
-  HoldsAtStart =
-      Laws world → (graph : world.Graph) → Valid world graph →
-      (state : world.State) (function : world.Function) →
-      world.IsState state → callee world graph (world.rip state) ≡ Some function →
-      Invariant world graph (start world function state)
-
-  -- one move that keeps what is printed keeps the invariant
-  abbrev pub OneMove : Type 0
-  OneMove =
-      Laws world → (graph : world.Graph) → Valid world graph →
-      (track : Track world) (move : Move world) → Invariant world graph track →
-      MomentKeeps world track → RowKeeps world track (row world graph track move) →
-      IfSome (moved world track (row world graph track move)) (Invariant world graph)
-
   -- what a run keeps, each of its beginnings keeps
   abbrev pub Beginnings : Type 0
   Beginnings =
@@ -73,3 +43,38 @@ module _ (world : World) where
       (λ later.
       SameOrigin (outermost world track.inner track.callers)
       (outermost world later.inner later.callers))
+
+module _ (world : World) (checks : Rules world) where
+  -- every valid graph has safe runs alone
+  abbrev pub ValidIsSafe : Type 0
+  ValidIsSafe =
+      (graph : world.Graph) → IsFormedGraph world checks graph → Valid world checks graph →
+      SafeRuns world graph
+
+  -- the theorem: the laws of one instruction make every valid graph safe
+  abbrev pub Simulates : Type 0
+  Simulates = Laws world checks → ValidIsSafe
+
+  -- the invariant holds at the end of every such run
+  abbrev pub HoldsThroughout : Type 0
+  HoldsThroughout =
+      Laws world checks → (graph : world.Graph) → IsFormedGraph world checks graph →
+      Valid world checks graph → AtEachEnd world graph (Invariant world checks graph)
+
+  -- the invariant holds at every start
+  abbrev pub HoldsAtStart : Type 0
+  HoldsAtStart =
+      Laws world checks → (graph : world.Graph) → IsFormedGraph world checks graph →
+      Valid world checks graph →
+      (state : world.State) (function : world.Function) →
+      world.IsState state → callee world graph (world.rip state) ≡ Some function →
+      Invariant world checks graph (start world function state)
+
+  -- one move that keeps what is printed keeps the invariant
+  abbrev pub OneMove : Type 0
+  OneMove =
+      Laws world checks → (graph : world.Graph) → IsFormedGraph world checks graph →
+      Valid world checks graph →
+      (track : Track world) (move : Move world) → Invariant world checks graph track →
+      MomentKeeps world track → RowKeeps world track (row world graph track move) →
+      IfSome (moved world track (row world graph track move)) (Invariant world checks graph)

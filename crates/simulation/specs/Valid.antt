@@ -2,7 +2,7 @@
 use Rattle.std.specs.Prelude.{◌≡◌, ℕ, false, Some, [], ◌∷◌, ◌⊎◌, List, All, IsSome}
 use Rattle.std.specs.List.{AllZip}
 use Rattle.std.specs.Option.{IsSomeAnd}
-use Rattle.simulation.specs.World.{World, View, Case, Class, Ordinary, Calling, System, Returning}
+use Rattle.simulation.specs.World.{World, Rules, View, Case, Class, Ordinary, Calling, System, Returning}
 use Rattle.simulation.specs.World.{Kind, Step, Call, Outside, Return, End}
 use Rattle.simulation.specs.Graph.{vertex_at, callee, view_of}
 
@@ -17,45 +17,6 @@ module _ (world : World) where
   abbrev pub view_at : Place → View world.Region
   view_at place = view_of world place.function place.site
 
-  -- an edge leads to its case's address, to a vertex that is there, which the case entails
-  pub record EdgeHolds
-      (function : world.Function) (case : Case world.Pred) (edge : ℕ × ℕ) : Type 0 where
-    pub address : edge.0 ≡ case.address
-    pub vertex :
-        IsSomeAnd (vertex_at world function edge.0 edge.1)
-        (λ vertex. world.Entails case.pred (world.pred vertex))
-
-  -- the edges stand for the cases, one for each, in order
-  abbrev pub EdgesHold : world.Function → List (Case world.Pred) → List (ℕ × ℕ) → Type 0
-  EdgesHold function cases edges = AllZip (EdgeHolds function) cases edges
-
-  -- the rules of a vertex at a `step` site
-  pub record StepHolds (place : Place) (vertex : world.Vertex) : Type 0 where
-    pub fork : world.ForkHolds (view_at place) place.instr (world.pred vertex)
-    pub cases :
-        IsSomeAnd (world.cases (view_at place) place.instr (world.pred vertex))
-        (λ cases. EdgesHold place.function cases (world.out vertex))
-
-  -- the one case after a call of either kind, or after a syscall
-  abbrev pub case_after : Place → world.Pred → Case world.Pred
-  case_after place pred =
-      record {
-        address = world.next_address (world.address place.site) place.instr;
-        pred = world.after (view_at place) place.instr pred;
-      }
-
-  -- the rules of a vertex at an `outside` site
-  pub record AfterHolds (place : Place) (vertex : world.Vertex) : Type 0 where
-    pub keeps : world.KeepsHold (view_at place) place.instr (world.pred vertex)
-    pub case :
-        EdgesHold place.function (case_after place (world.pred vertex) ∷ []) (world.out vertex)
-
-  -- the rules of a vertex at a `call` site
-  pub record CallHolds (place : Place) (target : ℕ) (vertex : world.Vertex) : Type 0 where
-    pub goes :
-        world.target (view_at place) place.instr (world.pred vertex) ≡ Some target
-    pub after : AfterHolds place vertex
-
   -- the instruction is of a right class, and the fact holds of each vertex of its site
   pub record EachVertex
       (place : Place) (IsRight : Class → Type 0) (Holds : world.Vertex → Type 0) : Type 0 where
@@ -68,36 +29,77 @@ module _ (world : World) where
       IsSomeAnd (world.instr_at (world.address site))
       (λ instr. Holds (record { function = function; site = site; instr = instr }))
 
+module _ (world : World) (checks : Rules world) where
+  -- an edge leads to its case's address, to a vertex that is there, which the case entails
+  pub record EdgeHolds
+      (function : world.Function) (case : Case world.Pred) (edge : ℕ × ℕ) : Type 0 where
+    pub address : edge.0 ≡ case.address
+    pub vertex :
+        IsSomeAnd (vertex_at world function edge.0 edge.1)
+        (λ vertex. checks.Entails case.pred (world.pred vertex))
+
+  -- the edges stand for the cases, one for each, in order
+  abbrev pub EdgesHold : world.Function → List (Case world.Pred) → List (ℕ × ℕ) → Type 0
+  EdgesHold function cases edges = AllZip (EdgeHolds function) cases edges
+
+  -- the rules of a vertex at a `step` site
+  pub record StepHolds (place : Place world) (vertex : world.Vertex) : Type 0 where
+    pub fork : checks.ForkHolds (view_at world place) place.instr (world.pred vertex)
+    pub cases :
+        IsSomeAnd (checks.cases (view_at world place) place.instr (world.pred vertex))
+        (λ cases. EdgesHold place.function cases (world.out vertex))
+
+  -- the one case after a call of either kind, or after a syscall
+  abbrev pub case_after : Place world → world.Pred → Case world.Pred
+  case_after place pred =
+      record {
+        address = world.next_address (world.address place.site) place.instr;
+        pred = checks.after (view_at world place) place.instr pred;
+      }
+
+  -- the rules of a vertex at an `outside` site
+  pub record AfterHolds (place : Place world) (vertex : world.Vertex) : Type 0 where
+    pub keeps : checks.KeepsHold (view_at world place) place.instr (world.pred vertex)
+    pub case :
+        EdgesHold place.function (case_after place (world.pred vertex) ∷ []) (world.out vertex)
+
+  -- the rules of a vertex at a `call` site
+  pub record CallHolds (place : Place world) (target : ℕ) (vertex : world.Vertex) : Type 0 where
+    pub goes :
+        checks.target (view_at world place) place.instr (world.pred vertex) ≡ Some target
+    pub after : AfterHolds place vertex
+
   -- the rules of a site of each kind; an `end` site has none
   abbrev pub KindHolds : world.Graph → world.Function → world.Site → Kind → Type 0
   KindHolds graph function site Step =
-      AtInstr function site
-      (λ place. EachVertex place (λ class. class ≡ Ordinary) (StepHolds place))
+      AtInstr world function site
+      (λ place. EachVertex world place (λ class. class ≡ Ordinary) (StepHolds place))
   KindHolds graph function site (Call target) =
       IsSome (callee world graph target) ×
-      AtInstr function site
-      (λ place. EachVertex place (λ class. class ≡ Calling) (CallHolds place target))
+      AtInstr world function site
+      (λ place. EachVertex world place (λ class. class ≡ Calling) (CallHolds place target))
   KindHolds graph function site Outside =
-      AtInstr function site
-      (λ place. EachVertex place (λ class. (class ≡ Calling) ⊎ (class ≡ System)) (AfterHolds place))
+      AtInstr world function site
+      (λ place. EachVertex world place
+      (λ class. (class ≡ Calling) ⊎ (class ≡ System)) (AfterHolds place))
   KindHolds graph function site Return =
-      AtInstr function site
+      AtInstr world function site
       (λ place.
-      EachVertex place (λ class. class ≡ Returning) (λ vertex. world.Returns (world.pred vertex)))
+      EachVertex world place (λ class. class ≡ Returning)
+      (λ vertex. checks.Returns (world.pred vertex)))
   KindHolds graph function site (End reason) = Unit {0}
 
   -- all rules of a site
   pub record SiteHolds
       (graph : world.Graph) (function : world.Function) (site : world.Site) : Type 0 where
-    pub fact : world.SiteFact (world.kind site) (view_of world function site)
-    pub formed : All (λ vertex. world.IsFormed (world.pred vertex)) (world.vertices site)
+    pub fact : checks.SiteFact (world.kind site) (view_of world function site)
     pub kind : KindHolds graph function site (world.kind site)
 
   -- all rules of a function: vertex 0 at its entry has the entry predicate, and each site holds
   pub record FunctionHolds (graph : world.Graph) (function : world.Function) : Type 0 where
     pub entry :
         IsSomeAnd (vertex_at world function (world.entry function) 0)
-        (λ vertex. world.IsEntry (world.pred vertex))
+        (λ vertex. checks.IsEntry (world.pred vertex))
     pub sites : All (SiteHolds graph function) (world.sites function)
 
   -- each function that is not refused holds
@@ -105,3 +107,13 @@ module _ (world : World) where
   Valid graph =
       All (λ function. world.refused function ≡ false → FunctionHolds graph function)
       (world.functions graph)
+
+  -- each predicate of a function is one of those that the laws speak of
+  abbrev pub HasForms : world.Function → Type 0
+  HasForms function =
+      All (λ site. All (λ vertex. checks.IsFormed (world.pred vertex)) (world.vertices site))
+      (world.sites function)
+
+  -- and each of a graph
+  abbrev pub IsFormedGraph : world.Graph → Type 0
+  IsFormedGraph graph = All HasForms (world.functions graph)

@@ -85,37 +85,18 @@ pub record World : Type 1 where
   pub next_address : ℕ → Instr → ℕ
   -- the state after an instruction, by a choice where the machine leaves a result open
   pub next : State → Instr → ℕ → Option State
-  -- the bytes when the callee of a call begins: those of the state, with what the call pushes
+  -- the bytes when a callee begins: those of the state, with what a call pushes; a syscall pushes
+  -- nothing, so at it they are the state's own
   pub pushed : State → Instr → Memory
   -- the valuation of an activation that begins in the state, with no named values
   pub fresh : State → Valuation
   -- the valuation in which the name of the site at an address has a value
   pub named : Valuation → ℕ → ℕ → Valuation
-  -- the entry registers, the return address and the FS base are those of the state
-  pub Began : Valuation → State → Type 0
   pub return_address : Valuation → ℕ
   -- the value that a site names, if any, as one state becomes another
   pub named_value : State → Instr → State → Option ℕ
   -- the predicate holds of the state under the valuation
   pub Sat : Pred → State → Valuation → Type 0
-  -- what each predicate of a graph is known to meet beside Sat
-  pub IsFormed : Pred → Type 0
-  -- the predicate with which each function begins
-  pub IsEntry : Pred → Type 0
-  -- where the first holds, so does the second
-  pub Entails : Pred → Pred → Type 0
-  -- the stack pointer, the return address and the saved registers are those of the entry
-  pub Returns : Pred → Type 0
-  -- the cases of an ordinary instruction; none where it leads to addresses that are not known
-  pub cases : View Region → Instr → Pred → Option (List (Case Pred))
-  -- what holds after a call or a syscall has come back
-  pub after : View Region → Instr → Pred → Pred
-  -- the constant to which a call goes
-  pub target : View Region → Instr → Pred → Option ℕ
-  -- the rules on what a callee keeps, on what a site assumes, and on a pair that is told apart
-  pub KeepsHold : View Region → Instr → Pred → Type 0
-  pub SiteFact : Kind → View Region → Type 0
-  pub ForkHolds : View Region → Instr → Pred → Type 0
   -- the bytes that no run may change are those of the image
   pub Loaded : Memory → Type 0
   -- no byte from so far below to so far above the state's stack pointer is the image's
@@ -123,3 +104,27 @@ pub record World : Type 1 where
   -- two regions have no byte in common; a region has the same bytes in both memories
   pub Separate : Region → Region → Valuation → Type 0
   pub SameBytes : Region → Valuation → Memory → Memory → Type 0
+
+-- what a checker of graphs works with: which predicates follow from others, and what holds after an
+-- instruction; no run is told by it
+pub record Rules (world : World) : Type 1 where
+  -- the entry registers, the return address and the FS base are those of the state
+  pub Began : world.Valuation → world.State → Type 0
+  -- what each predicate of a graph is known to meet beside Sat
+  pub IsFormed : world.Pred → Type 0
+  -- the predicate with which each function begins
+  pub IsEntry : world.Pred → Type 0
+  -- where the first holds, so does the second
+  pub Entails : world.Pred → world.Pred → Type 0
+  -- the stack pointer, the return address and the saved registers are those of the entry
+  pub Returns : world.Pred → Type 0
+  -- the cases of an ordinary instruction; none where it leads to addresses that are not known
+  pub cases : View world.Region → world.Instr → world.Pred → Option (List (Case world.Pred))
+  -- what holds after a call or a syscall has come back
+  pub after : View world.Region → world.Instr → world.Pred → world.Pred
+  -- the constant to which a call goes
+  pub target : View world.Region → world.Instr → world.Pred → Option ℕ
+  -- the rules on what a callee keeps, on what a site assumes, and on a pair that is told apart
+  pub KeepsHold : View world.Region → world.Instr → world.Pred → Type 0
+  pub SiteFact : Kind → View world.Region → Type 0
+  pub ForkHolds : View world.Region → world.Instr → world.Pred → Type 0

@@ -17,7 +17,7 @@ use Rattle.simulation_example.specs.declared.predicate.Region.{Region}
 use Rattle.simulation_example.specs.declared.predicate.Pred.{Pred}
 use Rattle.simulation_example.specs.Machine.{State, IsState, set, next_of, lowered, class_of, pushed, swapped, next, named_value}
 use Rattle.simulation_example.specs.Predicate.{Valuation, named, HasValue, Fixed, Sat, forget_term, forget, step_of, is_cell, after_of}
-use Rattle.simulation_example.specs.Example.{case_to, cases, address_of, example}
+use Rattle.simulation_example.specs.Example.{case_to, cases, address_of, example, rules}
 use Rattle.simulation_example.proofs.ListLemmas.{any_first, any_second}
 
 -- a place other than the one that was set has what it had
@@ -144,7 +144,7 @@ step_case view Syscall pred state new valuation choice list ordinary at sat lead
 step_case view Ret pred state new valuation choice list ordinary at sat leads are image = cc
 
 -- an ordinary instruction leads to one of its cases
-pub step : (image : Image) → StepLaw (example image)
+pub step : (image : Image) → StepLaw (example image) (rules image)
 step image point choice new list stands ordinary fork leads pairs are =
     step_case point.view point.instr point.pred point.state new
     (renamed (example image) point.valuation point.state.rip (named_value point.state point.instr new)) choice list ordinary stands.address
@@ -233,21 +233,21 @@ after_sat pred state new instr valuation address keeps range at sat same rbx kep
     }
 
 -- after a call of a function of the graph
-pub call : (image : Image) → CallLaw (example image)
+pub call : (image : Image) → CallLaw (example image) (rules image)
 call image point new target stands calling comes back =
     after_sat point.pred point.state new point.instr point.valuation point.view.address point.view.keeps stands.state stands.address stands.sat
     (record { rsp = back.rsp; rbp = back.saved.rbp; r12 = back.saved.r12; r13 = back.saved.r13; r14 = back.saved.r14; r15 = back.saved.r15; fs = back.saved.fs })
     back.saved.rbx comes.regions
 
 -- after a call of an outside function
-pub outside : (image : Image) → OutsideLaw (example image)
+pub outside : (image : Image) → OutsideLaw (example image) (rules image)
 outside image point new stands calling comes back =
     after_sat point.pred point.state new point.instr point.valuation point.view.address point.view.keeps stands.state stands.address stands.sat
     (record { rsp = back.rsp; rbp = back.saved.rbp; r12 = back.saved.r12; r13 = back.saved.r13; r14 = back.saved.r14; r15 = back.saved.r15; fs = back.saved.fs })
     back.saved.rbx comes.regions
 
 -- after a syscall
-pub syscall : (image : Image) → SyscallLaw (example image)
+pub syscall : (image : Image) → SyscallLaw (example image) (rules image)
 syscall image point new stands system comes back =
     after_sat point.pred point.state new point.instr point.valuation point.view.address point.view.keeps stands.state stands.address stands.sat
     (record {

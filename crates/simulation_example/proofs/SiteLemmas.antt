@@ -11,7 +11,7 @@ use Rattle.simulation_example.specs.declared.graph.Site.{Site}
 use Rattle.simulation_example.specs.declared.graph.Function.{Function}
 use Rattle.simulation_example.specs.declared.graph.Graph.{Graph}
 use Rattle.simulation_example.specs.Machine.{class_of}
-use Rattle.simulation_example.specs.Example.{kind_of, example}
+use Rattle.simulation_example.specs.Example.{kind_of, example, rules}
 
 -- an answer on each vertex is one on the site, where the instruction has a right class
 pub placed :
@@ -26,7 +26,7 @@ placed image function site instr IsRight Holds answer is right each =
 -- an answer on the rules of a kind is one on those of the site that has it
 pub by_kind :
     (image : Image) (graph : Graph) (function : Function) (site : Site) (kind : Kind) (answer : Bool) → site.kind ≡ kind →
-    IsTrue answer ↔ KindHolds (example image) graph function site (kind_of kind) →
-    IsTrue answer ↔ KindHolds (example image) graph function site (kind_of site.kind)
+    IsTrue answer ↔ KindHolds (example image) (rules image) graph function site (kind_of kind) →
+    IsTrue answer ↔ KindHolds (example image) (rules image) graph function site (kind_of site.kind)
 by_kind image graph function site kind answer is holds =
-    subst (λ k. IsTrue answer ↔ KindHolds (example image) graph function site (kind_of k)) (sym is) holds
+    subst (λ k. IsTrue answer ↔ KindHolds (example image) (rules image) graph function site (kind_of k)) (sym is) holds

@@ -3,7 +3,7 @@ use Rattle.std.specs.Prelude.{◌≡◌, ℕ, ◌+◌, ◌-◌, ◌%◌, ◌^◌
 use Rattle.std.specs.Prelude.{List, [], ◌∷◌, length, slice_get}
 use Rattle.simulation.specs.Registers.{rsp}
 use Rattle.simulation.specs.World as theory
-use Rattle.simulation.specs.World.{World, View, Case}
+use Rattle.simulation.specs.World.{World, Rules, View, Case}
 use Rattle.simulation.specs.Valid.{Place}
 use Rattle.simulation_example.specs.declared.machine.Instr.{Instr}
 use Rattle.simulation_example.specs.declared.machine.Instr.TheVariants.{Nop, Draw, Swap}
@@ -103,10 +103,21 @@ example image =
       pushed = pushed;
       fresh = fresh;
       named = named;
-      Began = λ valuation state. valuation.start ≡ state;
       return_address = return_address;
       named_value = named_value;
       Sat = Sat;
+      Loaded = λ memory. Unit {0};
+      Framed = λ below above state. Unit {0};
+      Separate = λ first second valuation. AreSeparate first second;
+      SameBytes = λ region valuation old new.
+          old (address_of region valuation) ≡ new (address_of region valuation);
+    }
+
+-- what the rules of its graphs say by
+abbrev pub rules : (image : Image) → Rules (example image)
+rules image =
+    record {
+      Began = λ valuation state. valuation.start ≡ state;
       IsFormed = λ pred. Unit {0};
       IsEntry = λ pred. pred ≡ entry_pred;
       Entails = Entails;
@@ -118,11 +129,6 @@ example image =
       -- regions at known distances from each other are told apart without an assumption
       SiteFact = λ kind view. length view.seps ≡ 0;
       ForkHolds = λ view instr pred. view.fork ≡ None;
-      Loaded = λ memory. Unit {0};
-      Framed = λ below above state. Unit {0};
-      Separate = λ first second valuation. AreSeparate first second;
-      SameBytes = λ region valuation old new.
-          old (address_of region valuation) ≡ new (address_of region valuation);
     }
 
 -- an instruction of an image at a site of a function

@@ -4,7 +4,7 @@ ghost use Rattle.simulation.specs.World as theory;
 ghost use Rattle.simulation.specs.Graph.{vertex_at, view_of};
 ghost use Rattle.simulation.specs.Valid.{EdgeHolds, EdgesHold, StepHolds, AfterHolds, CallHolds};
 ghost use Rattle.simulation.specs.Valid.{KindHolds, SiteHolds, FunctionHolds, Valid};
-ghost use Rattle.simulation_example.specs.Example.{case_at, place_at, cases, kind_of, example};
+ghost use Rattle.simulation_example.specs.Example.{case_at, place_at, cases, kind_of, example, rules};
 ghost use Rattle.simulation_example.specs.Predicate.{Returns, entry_pred};
 
 use crate::graph::{Function, Graph, Kind, Site, Vertex};
@@ -22,7 +22,8 @@ fn vertex_at<'a>(function: &'a Function, address: u64, number: u32) -> Option<&'
 /// Whether an edge leads to its case's address, to a vertex that is there and that it entails.
 fn edge_holds(function: &Function, address: u64, pred: Pred, edge: (u64, u32)) -> bool
     ensures { (image : Image) →
-        IsTrue result ↔ EdgeHolds (example image) function.now (case_at address pred) edge }
+        IsTrue result ↔ EdgeHolds (example image) (rules image)
+        function.now (case_at address pred) edge }
 {
     edge.0 == address
         && match vertex_at(function, edge.0, edge.1) {
@@ -34,7 +35,7 @@ fn edge_holds(function: &Function, address: u64, pred: Pred, edge: (u64, u32)) -
 /// Whether the edges stand for one case.
 fn one_edge(function: &Function, address: u64, pred: Pred, out: &[(u64, u32)]) -> bool
     ensures { (image : Image) → IsTrue result ↔
-        EdgesHold (example image) function.now (case_at address pred ∷ []) out.now }
+        EdgesHold (example image) (rules image) function.now (case_at address pred ∷ []) out.now }
 {
     match out {
         [edge] => edge_holds(function, address, pred, *edge),
@@ -45,7 +46,7 @@ fn one_edge(function: &Function, address: u64, pred: Pred, out: &[(u64, u32)]) -
 /// Whether the edges stand for two cases with one predicate.
 fn two_edges(function: &Function, address: u64, target: u64, pred: Pred, out: &[(u64, u32)]) -> bool
     ensures { (image : Image) → IsTrue result ↔
-        EdgesHold (example image) function.now
+        EdgesHold (example image) (rules image) function.now
         (case_at address pred ∷ case_at target pred ∷ []) out.now }
 {
     match out {
@@ -62,7 +63,7 @@ fn two_edges(function: &Function, address: u64, target: u64, pred: Pred, out: &[
 fn cases_hold(function: &Function, site: &Site, instr: Instr, vertex: &Vertex) -> bool
     ensures { (image : Image) → IsTrue result ↔
         IsSomeAnd (cases (view_of (example image) function.now site.now) instr vertex.now.pred)
-        (λ cases. EdgesHold (example image) function.now cases vertex.now.out.items) }
+        (λ cases. EdgesHold (example image) (rules image) function.now cases vertex.now.out.items) }
 {
     let next = next_address(site.address);
     let pred = vertex.pred.step(site.address, instr);
@@ -76,7 +77,8 @@ fn cases_hold(function: &Function, site: &Site, instr: Instr, vertex: &Vertex) -
 /// Whether the rules of a vertex at a `step` site hold, where the instruction stands.
 fn step_holds(function: &Function, site: &Site, instr: Instr, vertex: &Vertex) -> bool
     ensures { (image : Image) → IsTrue result ↔
-        StepHolds (example image) (place_at image function.now site.now instr) vertex.now }
+        StepHolds (example image) (rules image) (place_at image function.now site.now instr)
+        vertex.now }
 {
     match site.fork {
         Some(_) => false,
@@ -87,7 +89,8 @@ fn step_holds(function: &Function, site: &Site, instr: Instr, vertex: &Vertex) -
 /// Whether the rules of a vertex at an `outside` site hold, where the instruction stands.
 fn after_holds(function: &Function, site: &Site, instr: Instr, vertex: &Vertex) -> bool
     ensures { (image : Image) → IsTrue result ↔
-        AfterHolds (example image) (place_at image function.now site.now instr) vertex.now }
+        AfterHolds (example image) (rules image) (place_at image function.now site.now instr)
+        vertex.now }
 {
     let next = next_address(site.address);
     let pred = vertex.pred.after(site.address, &site.keeps);
@@ -97,7 +100,7 @@ fn after_holds(function: &Function, site: &Site, instr: Instr, vertex: &Vertex) 
 /// Whether the rules of each vertex at a `step` site hold, where the instruction stands.
 fn steps_hold(function: &Function, site: &Site, instr: Instr) -> bool
     ensures { (image : Image) → IsTrue result ↔
-        All (StepHolds (example image) (place_at image function.now site.now instr))
+        All (StepHolds (example image) (rules image) (place_at image function.now site.now instr))
         site.now.vertices.items }
 {
     for vertex in &site.vertices {
@@ -111,7 +114,7 @@ fn steps_hold(function: &Function, site: &Site, instr: Instr) -> bool
 /// Whether the rules of each vertex at an `outside` site hold, where the instruction stands.
 fn afters_hold(function: &Function, site: &Site, instr: Instr) -> bool
     ensures { (image : Image) → IsTrue result ↔
-        All (AfterHolds (example image) (place_at image function.now site.now instr))
+        All (AfterHolds (example image) (rules image) (place_at image function.now site.now instr))
         site.now.vertices.items }
 {
     for vertex in &site.vertices {
@@ -144,7 +147,8 @@ fn entry_holds(function: &Function) -> bool
 /// Whether the rules of a vertex at a `call` site hold, where the instruction stands.
 fn call_holds(function: &Function, site: &Site, instr: Instr, target: u64, vertex: &Vertex) -> bool
     ensures { (image : Image) → IsTrue result ↔
-        CallHolds (example image) (place_at image function.now site.now instr) target vertex.now }
+        CallHolds (example image) (rules image)
+        (place_at image function.now site.now instr) target vertex.now }
 {
     match instr.call_target() {
         None => false,
@@ -155,7 +159,8 @@ fn call_holds(function: &Function, site: &Site, instr: Instr, target: u64, verte
 /// Whether the rules of each vertex at a `call` site hold, where the instruction stands.
 fn calls_hold(function: &Function, site: &Site, instr: Instr, target: u64) -> bool
     ensures { (image : Image) → IsTrue result ↔
-        All (CallHolds (example image) (place_at image function.now site.now instr) target)
+        All (CallHolds (example image) (rules image)
+        (place_at image function.now site.now instr) target)
         site.now.vertices.items }
 {
     for vertex in &site.vertices {
@@ -169,7 +174,7 @@ fn calls_hold(function: &Function, site: &Site, instr: Instr, target: u64) -> bo
 /// Whether the rules of a `step` site hold.
 fn step_site(image: &Image, function: &Function, site: &Site) -> bool
     ensures { (graph : Graph) → IsTrue result ↔
-        KindHolds (example image.now) graph function.now site.now theory.Step }
+        KindHolds (example image.now) (rules image.now) graph function.now site.now theory.Step }
 {
     match image.instr_at(site.address) {
         None => false,
@@ -180,7 +185,8 @@ fn step_site(image: &Image, function: &Function, site: &Site) -> bool
 /// Whether the rules of a `call` site hold.
 fn call_site(image: &Image, graph: &Graph, function: &Function, site: &Site, target: u64) -> bool
     ensures { IsTrue result ↔
-        KindHolds (example image.now) graph.now function.now site.now (theory.Call target) }
+        KindHolds (example image.now) (rules image.now) graph.now function.now site.now
+        (theory.Call target) }
 {
     if !graph.has_callee(target) {
         return false;
@@ -194,7 +200,7 @@ fn call_site(image: &Image, graph: &Graph, function: &Function, site: &Site, tar
 /// Whether the rules of an `outside` site hold.
 fn outside_site(image: &Image, function: &Function, site: &Site) -> bool
     ensures { (graph : Graph) → IsTrue result ↔
-        KindHolds (example image.now) graph function.now site.now theory.Outside }
+        KindHolds (example image.now) (rules image.now) graph function.now site.now theory.Outside }
 {
     match image.instr_at(site.address) {
         None => false,
@@ -205,7 +211,7 @@ fn outside_site(image: &Image, function: &Function, site: &Site) -> bool
 /// Whether the rules of a `ret` site hold.
 fn return_site(image: &Image, function: &Function, site: &Site) -> bool
     ensures { (graph : Graph) → IsTrue result ↔
-        KindHolds (example image.now) graph function.now site.now theory.Return }
+        KindHolds (example image.now) (rules image.now) graph function.now site.now theory.Return }
 {
     match image.instr_at(site.address) {
         None => false,
@@ -216,7 +222,8 @@ fn return_site(image: &Image, function: &Function, site: &Site) -> bool
 /// Whether the rules of the site's kind hold.
 fn kind_holds(image: &Image, graph: &Graph, function: &Function, site: &Site) -> bool
     ensures { IsTrue result ↔
-        KindHolds (example image.now) graph.now function.now site.now (kind_of site.now.kind) }
+        KindHolds (example image.now) (rules image.now) graph.now function.now site.now
+        (kind_of site.now.kind) }
 {
     match site.kind {
         Kind::Step => step_site(image, function, site),
@@ -229,14 +236,16 @@ fn kind_holds(image: &Image, graph: &Graph, function: &Function, site: &Site) ->
 
 /// Whether all rules of a site hold.
 fn site_holds(image: &Image, graph: &Graph, function: &Function, site: &Site) -> bool
-    ensures { IsTrue result ↔ SiteHolds (example image.now) graph.now function.now site.now }
+    ensures { IsTrue result ↔
+        SiteHolds (example image.now) (rules image.now) graph.now function.now site.now }
 {
     site.seps.is_empty() && kind_holds(image, graph, function, site)
 }
 
 /// Whether all rules of a function hold.
 fn function_holds(image: &Image, graph: &Graph, function: &Function) -> bool
-    ensures { IsTrue result ↔ FunctionHolds (example image.now) graph.now function.now }
+    ensures { IsTrue result ↔
+        FunctionHolds (example image.now) (rules image.now) graph.now function.now }
 {
     entry_holds(function) && sites_hold(image, graph, function)
 }
@@ -244,7 +253,8 @@ fn function_holds(image: &Image, graph: &Graph, function: &Function) -> bool
 /// Whether all rules of each site hold.
 fn sites_hold(image: &Image, graph: &Graph, function: &Function) -> bool
     ensures { IsTrue result ↔
-        All (SiteHolds (example image.now) graph.now function.now) function.now.sites.items }
+        All (SiteHolds (example image.now) (rules image.now) graph.now function.now)
+        function.now.sites.items }
 {
     for site in &function.sites {
         if !site_holds(image, graph, function, site) {
@@ -257,14 +267,14 @@ fn sites_hold(image: &Image, graph: &Graph, function: &Function) -> bool
 /// Whether all rules of a function hold, none of which is tried on a refused one.
 fn refused_or_holds(image: &Image, graph: &Graph, function: &Function) -> bool
     ensures { IsTrue result ↔ (function.now.refused ≡ false →
-        FunctionHolds (example image.now) graph.now function.now) }
+        FunctionHolds (example image.now) (rules image.now) graph.now function.now) }
 {
     function.refused || function_holds(image, graph, function)
 }
 
 /// Whether the graph breaks none of the rules of its functions, sites, vertices and edges.
 pub fn check(image: &Image, graph: &Graph) -> bool
-    ensures { IsTrue result ↔ Valid (example image.now) graph.now }
+    ensures { IsTrue result ↔ Valid (example image.now) (rules image.now) graph.now }
 {
     for function in &graph.functions {
         if !refused_or_holds(image, graph, function) {

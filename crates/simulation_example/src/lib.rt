@@ -9,8 +9,6 @@ mod laws;
 mod machine;
 mod predicate;
 mod runs;
-#[cfg(test)]
-mod tests;
 
 pub use graph::{Function, Graph, Kind, Site, Vertex};
 pub use machine::{Image, Instr};

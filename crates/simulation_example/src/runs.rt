@@ -1,7 +1,7 @@
 ghost use Rattle.std.specs.Prelude.{◌↔◌, IsTrue};
 ghost use Rattle.simulation.specs.Theorem.{ValidIsSafe, SafeRuns};
 ghost use Rattle.simulation.specs.Valid.{Valid};
-ghost use Rattle.simulation_example.specs.Example.{example};
+ghost use Rattle.simulation_example.specs.Example.{example, rules};
 
 use crate::check::check;
 use crate::graph::Graph;
@@ -11,7 +11,7 @@ use simulation::simulation;
 
 /// The theorem for this machine: a valid graph has safe runs alone.
 pub fn runs_are_safe()
-    ensures { (image : Image) → ValidIsSafe (example image) }
+    ensures { (image : Image) → ValidIsSafe (example image) (rules image) }
 {
     base_laws();
     step_law();
@@ -24,7 +24,7 @@ pub fn runs_are_safe()
 /// Whether a graph is valid for an image. Where it is, every run that keeps what it prints is
 /// safe, from every start and for every list of moves.
 pub fn accept(image: &Image, graph: &Graph) -> bool
-    ensures exact { IsTrue result ↔ Valid (example image.now) graph.now }
+    ensures exact { IsTrue result ↔ Valid (example image.now) (rules image.now) graph.now }
     ensures safe { IsTrue result → SafeRuns (example image.now) graph.now }
 {
     runs_are_safe();

@@ -1,11 +1,12 @@
+use Rattle.instr_at.specs.At.{instr_at}
 use Rattle.edge_checker.specs.Breaks.{function_breaks}
-use Rattle.hoare_graph.specs.WellFormed.{IsFunction}
+use Rattle.graph_data.specs.WellFormed.{IsFunction}
 use Rattle.edge_checker.proofs.PlaceLemmas.{each_at}
 use Rattle.edge_checker.proofs.FirstLemmas.{starts, stops, goes_on, ends}
 use Rattle.edge_checker.proofs.checking.first_break.Goals as goal
 
 pub loop-function-init : goal.loop-function-init
-loop-function-init c = starts (function_breaks c.args.image.now) c.args.g.now.functions
+loop-function-init c = starts (function_breaks (instr_at c.args.image.now)) c.args.g.now.functions
 
 pub returns-then-is_some : goal.returns-then-is_some
 returns-then-is_some c = stops c.loop-function.invariant c.as_slice-function-items.ensures c.loop-function-test.true c.function-item.is c.in_ok-broken.ensures c.is_some.ensures c.if-is_some.true

@@ -4,10 +4,10 @@ use Rattle.simulation.proofs.theorem.simulation.Goals as goal
 pub returns : goal.returns
 returns g c =
     record {
-      simulates = λ image. simulates (g.I.Subject.world image);
-      at_start = λ image. at_start (g.I.Subject.world image);
-      one_move = λ image. one_move (g.I.Subject.world image);
-      throughout = λ image. throughout (g.I.Subject.world image);
-      beginnings = λ image. beginnings (g.I.Subject.world image);
-      origin = λ image. origin_stays (g.I.Subject.world image);
+      simulates = λ image. simulates (g.I.Subject.world image) (g.I.Subject.rules image);
+      at_start = λ image. at_start (g.I.Subject.world image) (g.I.Subject.rules image);
+      one_move = λ image. one_move (g.I.Subject.world image) (g.I.Subject.rules image);
+      throughout = λ image. throughout (g.I.Subject.world image) (g.I.Subject.rules image);
+      beginnings = λ image. beginnings (g.I.Subject.world image) (g.I.Subject.rules image);
+      origin = λ image. origin_stays (g.I.Subject.world image) (g.I.Subject.rules image);
     }

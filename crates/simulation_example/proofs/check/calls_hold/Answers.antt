@@ -1,17 +1,17 @@
 use Rattle.std.proofs.Common.{arith}
 use Rattle.simulation.specs.Valid.{CallHolds}
-use Rattle.simulation_example.specs.Example.{example}
+use Rattle.simulation_example.specs.Example.{example, rules}
 use Rattle.simulation_example.proofs.LoopLemmas.{stops, goes_on, ends}
 use Rattle.simulation_example.proofs.check.calls_hold.Goals as goal
 
 pub returns-then-not-call_holds : goal.returns-then-not-call_holds
 returns-then-not-call_holds c = λ image.
-    stops (CallHolds (example image) (record { function = c.args.function.now; site = c.args.site.now; instr = c.args.instr }) c.args.target) c.args.site.now.vertices.items c.loop-vertex.vertex-index c.vertex-item.result c.call_holds.result (omega arith) (cc (c.vertex-item.is, c.deref-vertex-items.ensures.value)) (c.call_holds.ensures image) (cc)
+    stops (CallHolds (example image) (rules image) (record { function = c.args.function.now; site = c.args.site.now; instr = c.args.instr }) c.args.target) c.args.site.now.vertices.items c.loop-vertex.vertex-index c.vertex-item.result c.call_holds.result (omega arith) (cc (c.vertex-item.is, c.deref-vertex-items.ensures.value)) (c.call_holds.ensures image) (cc)
 
 pub loop-vertex-preserved : goal.loop-vertex-preserved
 loop-vertex-preserved c = λ image.
-    goes_on (CallHolds (example image) (record { function = c.args.function.now; site = c.args.site.now; instr = c.args.instr }) c.args.target) c.args.site.now.vertices.items c.loop-vertex.vertex-index c.vertex-item.result c.call_holds.result (omega arith) (cc (c.vertex-item.is, c.deref-vertex-items.ensures.value)) (c.call_holds.ensures image) (cc) (c.loop-vertex.invariant image)
+    goes_on (CallHolds (example image) (rules image) (record { function = c.args.function.now; site = c.args.site.now; instr = c.args.instr }) c.args.target) c.args.site.now.vertices.items c.loop-vertex.vertex-index c.vertex-item.result c.call_holds.result (omega arith) (cc (c.vertex-item.is, c.deref-vertex-items.ensures.value)) (c.call_holds.ensures image) (cc) (c.loop-vertex.invariant image)
 
 pub returns : goal.returns
 returns c = λ image.
-    ends (CallHolds (example image) (record { function = c.args.function.now; site = c.args.site.now; instr = c.args.instr }) c.args.target) c.args.site.now.vertices.items c.loop-vertex.vertex-index (omega arith) (c.loop-vertex.invariant image)
+    ends (CallHolds (example image) (rules image) (record { function = c.args.function.now; site = c.args.site.now; instr = c.args.instr }) c.args.target) c.args.site.now.vertices.items c.loop-vertex.vertex-index (omega arith) (c.loop-vertex.invariant image)

@@ -2,9 +2,9 @@ use Rattle.std.proofs.Common.{take}
 use Rattle.std.specs.Prelude.{All}
 use Rattle.simulation.specs.Valid.{CallHolds}
 use Rattle.simulation_example.specs.declared.machine.Image.{Image}
-use Rattle.simulation_example.specs.Example.{example}
+use Rattle.simulation_example.specs.Example.{example, rules}
 use Rattle.simulation_example.proofs.check.calls_hold.Given as goal
 
 abbrev pub invariant-loop-vertex : goal.invariant-loop-vertex
 invariant-loop-vertex l =
-    (image : Image) → All (CallHolds (example image) (record { function = l.function; site = l.site; instr = l.instr }) l.target) (take l.vertex-index l.site.vertices.items)
+    (image : Image) → All (CallHolds (example image) (rules image) (record { function = l.function; site = l.site; instr = l.instr }) l.target) (take l.vertex-index l.site.vertices.items)

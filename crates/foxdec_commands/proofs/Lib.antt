@@ -1,0 +1,12 @@
+pub mod ShownLemmas
+pub mod FileResultLemmas
+pub mod FileLemmas
+pub mod GraphLemmas
+pub mod DueLemmas
+pub mod TextLemmas
+pub mod WordLemmas
+pub mod ListingLemmas
+pub mod GuaranteeLemmas
+pub mod CheckLemmas
+pub mod FaultLemmas
+pub mod QuietLemmas

@@ -1,0 +1,11 @@
+pub mod Words
+pub mod FileRefusal
+pub mod GraphFault
+pub mod Ending
+pub mod VerdictLine
+pub mod Listing
+pub mod Outcome
+pub mod Outside
+pub mod Guarantee
+pub mod FileResult
+pub mod View

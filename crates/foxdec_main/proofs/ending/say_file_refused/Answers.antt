@@ -1,4 +1,0 @@
-use Rattle.foxdec_main.proofs.ending.say_file_refused.Goals as goal
-
-pub returns : goal.returns
-returns g c = rw (c.as_bytes.ensures.value, c.as_bytes-2.ensures.value, c.name.ensures, c.format-number.ensures.text, c.number.ensures) at c.say_file.ensures

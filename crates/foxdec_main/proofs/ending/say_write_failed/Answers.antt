@@ -1,4 +1,0 @@
-use Rattle.foxdec_main.proofs.ending.say_write_failed.Goals as goal
-
-pub returns : goal.returns
-returns g c = rw (c.as_bytes-number.ensures.value, c.format.ensures.text) at c.put_pieces.ensures

@@ -1,9 +1,0 @@
-use Rattle.foxdec_main.specs.Listing.{listing}
-use Rattle.foxdec_main.proofs.ListingLemmas.{IsListed}
-use Rattle.foxdec_main.proofs.listing.list.Given as goal
-
-abbrev pub decreases-loop-left : goal.decreases-loop-left
-decreases-loop-left l = l.left
-
-abbrev pub invariant-loop-left : goal.invariant-loop-left
-invariant-loop-left l = IsListed l.image l.out.items l.left l.at (listing l.image l.count l.address)

@@ -1,0 +1,4 @@
+pub mod Simple
+pub mod Built
+pub mod Step
+pub mod Rules

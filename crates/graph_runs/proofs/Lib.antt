@@ -1,0 +1,5 @@
+pub mod NodeLemmas
+pub mod EntryLemmas
+pub mod EntailLemmas
+pub mod ReturnLemmas
+pub mod MachineLemmas

@@ -1,0 +1,4 @@
+pub mod BuiltLemmas
+pub mod FormLemmas
+pub mod StepLemmas
+pub mod LawLemmas
