@@ -15,6 +15,8 @@ EXAMPLES = {
     "ret.elf": "C3",                         # ret
     "move.elf": "48B8 FFFFFFFFFFFFFFFF C3",  # mov rax, -1; ret
     "push.elf": "53 5B C3",                  # push rbx; pop rbx; ret
+    # push rbx; xor ebx, ebx; inc ebx; cmp ebx, 10; jne (back to inc); pop rbx; ret
+    "loop.elf": "53 31DB FFC3 83FB0A 75F9 5B C3",
 }
 
 

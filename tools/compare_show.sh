@@ -2,9 +2,12 @@
 # Compares `show` with GNU objdump over the functions of an ELF executable for x86-64:
 #   tools/compare_show.sh [FILE]
 # Without FILE a statically linked C program is compiled here. From the start of each function of the symbol table `show`
-# goes on to the function's end or to the first address that it calls none; each instruction's address and bytes are
-# looked up in what objdump lists. Printed are the counts of equal ones and each class of differences with an example,
-# and the mnemonics at which `show` stopped, most frequent first. The status is 1 where an instruction differs.
+# goes on to the function's end or to the first address that it calls none; each instruction is looked up
+# in what objdump lists, and its address, bytes, mnemonic and operands are compared. These forms count as equal: numbers of
+# one residue modulo the operation's width, a place relative to rip and its address, a count of 1 that is left out, an
+# exchange in either order, any nop, riz as no index, prefixes without effect, and movsxd, movabs, endbr64 and sal for movsx,
+# mov, nop and shl. Printed are the counts of equal ones and each class of differences with an example, and the mnemonics
+# at which `show` stopped, most frequent first. The status is 1 where an instruction differs.
 set -eu
 top=$(cd "$(dirname "$0")/.." && pwd)
 . "$top/tools/common.sh"

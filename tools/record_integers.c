@@ -1,5 +1,5 @@
 /* Runs the processor's own instructions on edge values and prints what they give, as the rows of
- * crates/bits_core/src/recorded.rt. Numbers are hexadecimal, the four flags one digit: 8 carry, 4 zero, 2 sign,
+ * crates/x86_tests/src/recorded.rt. Numbers are hexadecimal, the four flags one digit: 8 carry, 4 zero, 2 sign,
  * 1 overflow. A divide error (#DE) is two dashes. Flags that the manual leaves undefined are not printed. */
 #include <setjmp.h>
 #include <signal.h>

@@ -1,6 +1,6 @@
 #!/usr/bin/env bash
 # Records what this processor's integer instructions give and compares it with the rows that stand in
-# crates/bits_core/src/recorded.rt. With a word, only prints the rows. Skipped where no C compiler is, or on
+# crates/x86_tests/src/recorded.rt. With a word, only prints the rows. Skipped where no C compiler is, or on
 # another processor than x86-64.
 set -euo pipefail
 cd "$(dirname "$0")/.."
@@ -16,6 +16,6 @@ if [ $# -gt 0 ]; then
     cat "$folder/rows"
     exit 0
 fi
-grep -E '^[0-9a-f]+ ' crates/bits_core/src/recorded.rt >"$folder/kept"
+grep -E '^[0-9a-f]+ ' crates/x86_tests/src/recorded.rt >"$folder/kept"
 grep -E '^[0-9a-f]+ ' "$folder/rows" | diff - "$folder/kept"
 echo "record_integers: $(wc -l <"$folder/kept") rows, as this processor gives them"
