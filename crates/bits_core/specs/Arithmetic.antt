@@ -36,10 +36,11 @@ abbrev pub exact_difference_of : Width → Bool → ℕ → ℕ → Bool → ℤ
 exact_difference_of w signed a b borrow =
     integer_of w signed a -ℤ integer_of w signed b -ℤ pos (from_bool borrow)
 
--- a sum, and a difference
+-- a + b, and one more where the carry is set, and its flags
 abbrev pub sum_of : Width → ℕ → ℕ → Bool → ℕ × Flags
 sum_of w a b carry = exactly w (exact_sum_of w false a b carry) (exact_sum_of w true a b carry)
 
+-- a - b, less one where the carry is set, and its flags
 abbrev pub difference_of : Width → ℕ → ℕ → Bool → ℕ × Flags
 difference_of w a b borrow =
     exactly w (exact_difference_of w false a b borrow) (exact_difference_of w true a b borrow)

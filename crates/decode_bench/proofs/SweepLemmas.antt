@@ -1,10 +1,9 @@
 -- A sweep that goes on past one byte.
-use Rattle.std.proofs.Common.{◌≡◌, ℕ, ◌+◌, ◌<◌, ◌≤◌, List, length, drop, Some, None, sym, subst, arith}
+use Rattle.std.proofs.Common.{◌≡◌, ℕ, ◌+◌, ◌<◌, ◌≤◌, List, length, drop, sym, subst, arith}
 use Rattle.x86_instr.specs.declared.instr.Instr.{Instr}
 use Rattle.x86_instr.specs.Fits.{InForm}
-use Rattle.x86_decode.specs.Reading.{first_instr}
 use Rattle.decode_bench.specs.declared.listing.Count.{Count}
-use Rattle.decode_bench.specs.Sweep.{Sweeps}
+use Rattle.decode_bench.specs.Sweep.{Begins, Sweeps}
 use Rattle.decode_bench.specs.Sweep.Sweeps.{by_instruction, by_byte}
 
 -- it has come to the next offset, at or after this one, and no more is counted than bytes were passed
@@ -16,7 +15,7 @@ Swept code at next count =
     × (count.others ≤ at)
 
 pub past_instruction : (code : List ℕ) (at next : ℕ) (count : Count) (i : Instr) → at < length code → at ≡ next
-    → first_instr at (drop at code) ≡ Some i → InForm i → Swept code at next count
+    → Begins at (drop at code) i → InForm i → Swept code at next count
     → Swept code (at + 1) (at + i.len) (record { instructions = count.instructions + 1; others = count.others })
 past_instruction code at next count i h same found form swept =
     let here : Sweeps code at count.instructions count.others =
@@ -27,7 +26,7 @@ past_instruction code at next count i h same found form swept =
     (omega arith, by_instruction at count.instructions count.others i h found here, omega arith, omega arith)
 
 pub past_byte : (code : List ℕ) (at next : ℕ) (count : Count) → at < length code → at ≡ next
-    → first_instr at (drop at code) ≡ None → Swept code at next count
+    → ((i : Instr) → Begins at (drop at code) i → ⊥) → Swept code at next count
     → Swept code (at + 1) (at + 1) (record { instructions = count.instructions; others = count.others + 1 })
 past_byte code at next count h same none swept =
     let here : Sweeps code at count.instructions count.others =

@@ -1,7 +1,7 @@
-ghost use Rattle.std.specs.Prelude.{ℕ, ◌≡◌, ◌<◌, ◌≤◌, IfSome, drop, length};
+ghost use Rattle.std.specs.Prelude.{ℕ, ◌≡◌, ◌↔◌, ◌<◌, ◌≤◌, IfSome, drop, length};
 ghost use Rattle.x86_instr.specs.Fits.{InForm};
-ghost use Rattle.x86_decode.specs.Reading.{first_instr};
-ghost use Rattle.decode_bench.specs.Sweep.{Sweeps};
+ghost use Rattle.x86_instr.specs.declared.instr.Instr.{Instr as PlainInstr};
+ghost use Rattle.decode_bench.specs.Sweep.{Begins, Sweeps};
 
 use std::alloc::{AllocError, Global};
 use x86_decode::decode;
@@ -19,7 +19,8 @@ pub struct Count {
 // The instruction that begins at an offset, which is its address too.
 fn instruction_at(code: &[u8], at: usize) -> Option<Instr>
     requires { at < length code.now }
-    ensures value { result ≡ first_instr at (drop at code.now) }
+    ensures found { IfSome result (Begins at (drop at code.now)) }
+    ensures none { (result ≡ None) ↔ ((i : PlainInstr) → Begins at (drop at code.now) i → ⊥) }
     ensures in_form { IfSome result InForm }
 {
     decode(&code[at..], at as u64)

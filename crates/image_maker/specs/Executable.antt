@@ -11,6 +11,7 @@ load_address = 0x400000
 abbrev pub file_header_size : ℕ
 file_header_size = 64
 
+-- the bytes of a program header
 abbrev pub program_header_size : ℕ
 program_header_size = 56
 

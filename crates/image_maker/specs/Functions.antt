@@ -12,6 +12,7 @@ filled size code = code ++ replicate (size - length code) 0xCC
 abbrev pub call_size : ℕ
 call_size = 5
 
+-- a call to the address so many bytes after it (Intel SDM volume 2, CALL)
 abbrev pub call_ahead : ℕ → List ℕ
 call_ahead distance = 0xE8 ∷ little_bytes 4 distance
 

@@ -11,5 +11,6 @@ most_functions = 20000
 abbrev pub code_of : ℕ → List ℕ
 code_of count = if count == 0 then 0xC3 ∷ [] else start ++ functions count count
 
+-- the executable with so many functions
 abbrev pub made_of : ℕ → List ℕ
 made_of count = executable (code_of count)

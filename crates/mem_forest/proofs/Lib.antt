@@ -20,3 +20,4 @@ pub mod LoadLemmas
 pub mod RenameLemmas
 pub mod AliasFormLemmas
 pub mod WeakenLemmas
+pub mod MentionLemmas

@@ -8,6 +8,7 @@ pub mod Store
 pub mod Load
 pub mod Alias
 pub mod Forget
+pub mod Mentioned
 pub mod Clear
 pub mod Holders
 pub use Rattle.memory_regions.specs.Relate

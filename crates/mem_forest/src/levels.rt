@@ -73,10 +73,7 @@ pub(crate) fn keep_separate(nodes: &mut Vec<Node>, region: &Region, context: &Co
 pub(crate) fn leaf(alloc: Global, region: &Region, value: Option<Term>) -> Result<Node, NoMemory>
     ensures { IfOk result (λ n. n ≡ record { names = region.now.at ∷ []; bytes = region.now.bytes; value = value; under = none }) }
 {
-    let mut names = Vec::new(alloc);
-    names
-        .push(region.at.copy(alloc)?)
-        .map_err(AllocError::from)?;
+    let names = Vec::from_array(alloc, [region.at.copy(alloc)?]).map_err(AllocError::from)?;
     Ok(Node {
         names,
         bytes: region.bytes,

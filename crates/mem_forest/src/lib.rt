@@ -9,6 +9,7 @@ mod forgetting;
 mod holders;
 mod levels;
 mod loading;
+mod mentioning;
 mod naming;
 mod node;
 mod storing;

@@ -264,7 +264,7 @@ pub(crate) fn are_alone(all: &[Node], nodes: &[Node]) -> bool
 fn copy_terms(alloc: Global, terms: &[Term]) -> Result<Vec<Term>, NoMemory>
     ensures { IfOk result (λ copies. copies.items ≡ terms.now) }
 {
-    let mut copies = Vec::new(alloc);
+    let mut copies = Vec::with_capacity(alloc, terms.len())?;
     for term in terms {
         copies.push(term.copy(alloc)?).map_err(AllocError::from)?;
     }
@@ -284,7 +284,7 @@ pub(crate) fn copy_value(alloc: Global, value: Option<&Term>) -> Result<Option<T
 pub(crate) fn copy_nodes(alloc: Global, nodes: &[Node]) -> Result<Vec<Node>, NoMemory>
     ensures { IfOk result (λ copies. copies.items ≡ nodes.now) }
 {
-    let mut copies = Vec::new(alloc);
+    let mut copies = Vec::with_capacity(alloc, nodes.len())?;
     for node in nodes {
         copies.push(node.copy(alloc)?).map_err(AllocError::from)?;
     }

@@ -181,7 +181,7 @@ pub(crate) fn have_values(bounds: &[Bound]) -> bool
 pub(crate) fn copy_bounds(alloc: Global, bounds: &[Bound]) -> Result<Items<Bound>, NoMemory>
     ensures { IfOk result (λ copies. copies ≡ bounds.now) }
 {
-    let mut copies = Items::new(alloc);
+    let mut copies = Items::from_vec(Vec::with_capacity(alloc, bounds.len())?);
     for bound in bounds {
         copies.push(bound.copy(alloc)?)?;
     }

@@ -71,7 +71,8 @@ fn missing_register(held: &[Option<Term>], wanted: &[Option<Term>]) -> Option<u8
     None
 }
 
-pub(crate) fn holds_flags(held: Option<&FlagFact>, wanted: Option<&FlagFact>) -> bool
+/// Whether the second flag fact, where there is one, is the first.
+pub fn holds_flags(held: Option<&FlagFact>, wanted: Option<&FlagFact>) -> bool
     ensures { result ≡ holds_flags (option_copied held.entry) (option_copied wanted.entry) }
 {
     match (held, wanted) {
@@ -81,7 +82,8 @@ pub(crate) fn holds_flags(held: Option<&FlagFact>, wanted: Option<&FlagFact>) ->
     }
 }
 
-fn missing_bound(held: &[Bound], wanted: &[Bound]) -> Option<u32>
+/// The place of the first bound of the second list that none of the first holds; takes no memory.
+pub fn missing_bound(held: &[Bound], wanted: &[Bound]) -> Option<u32>
     requires few { length wanted.now ≤ 16 }
     requires formed { IsTrue (are_formed wanted.now) }
     ensures { result ≡ missing_bound held.now wanted.now }
@@ -99,7 +101,7 @@ fn missing_bound(held: &[Bound], wanted: &[Bound]) -> Option<u32>
 /// The place after these nodes in preorder, of which the first has place `first`, or as an error the
 /// place of the first that isn't held. It calls itself once for each level, of which a forest has at most 64.
 #[cycle(cells)]
-fn check_nodes(wanted: &[Node], held: &[Node], first: u32) -> Result<u32, u32>
+pub fn check_nodes(wanted: &[Node], held: &[Node], first: u32) -> Result<u32, u32>
     requires { first + count (cells wanted.now) < 2 ^ 32 }
     ensures missing { result_err result ≡ missing_cell first (cells held.now) (cells wanted.now) }
     ensures next { IfOk result (λ n. n ≡ first + count (cells wanted.now)) }

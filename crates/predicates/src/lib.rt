@@ -13,5 +13,6 @@ mod weaken;
 
 pub use bound::{Bound, FlagFact, MOST_NUMBERS, Values};
 pub use conjunct::Conjunct;
+pub use entail::{check_nodes, holds_flags, missing_bound};
 pub use pred::{MOST_BOUNDS, Pred, REGISTERS, entry_pred};
 pub use site::{Kind, Reason, SiteView};

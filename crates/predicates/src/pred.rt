@@ -130,7 +130,7 @@ fn count_known(regs: &[Option<Term>]) -> u64
 fn copy_registers(alloc: Global, regs: &[Option<Term>]) -> Result<Items<Option<Term>>, NoMemory>
     ensures { IfOk result (λ copies. copies ≡ regs.now) }
 {
-    let mut copies = Items::new(alloc);
+    let mut copies = Items::from_vec(Vec::with_capacity(alloc, regs.len())?);
     for register in regs {
         copies.push(copy_known(alloc, register.as_ref())?)?;
     }
@@ -152,7 +152,7 @@ fn copy_flags(alloc: Global, flags: Option<&FlagFact>) -> Result<Option<FlagFact
 pub fn entry_pred(alloc: Global) -> Result<Pred, NoMemory>
     ensures { IfOk result (λ p. p ≡ entry_predicate) }
 {
-    let mut regs = Items::new(alloc);
+    let mut regs = Items::from_vec(Vec::with_capacity(alloc, REGISTERS)?);
     for number in 0..16 {
         regs.push(Some(Term::symbol(alloc, Sym::Entry(number))?))?;
     }
@@ -171,15 +171,13 @@ fn return_cell(alloc: Global) -> Result<Forest, NoMemory>
 {
     let at = Term::symbol(alloc, Sym::Entry(4))?;
     let value = Term::symbol(alloc, Sym::Ra)?;
-    let mut names = Vec::new(alloc);
-    names.push(at).map_err(AllocError::from)?;
-    let mut nodes = Vec::new(alloc);
+    let names = Vec::from_array(alloc, [at]).map_err(AllocError::from)?;
     let node = Node {
         names,
         bytes: 8,
         value: Some(value),
         under: Vec::new(alloc),
     };
-    nodes.push(node).map_err(AllocError::from)?;
-    Ok(Forest::of_nodes(nodes).unwrap())
+    let nodes = Vec::from_array(alloc, [node]).map_err(AllocError::from)?;
+    Ok(Forest::of_checked_nodes(nodes))
 }

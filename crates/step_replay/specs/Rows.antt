@@ -6,7 +6,7 @@ use Rattle.x86_machine.specs.declared.machine.Outcome.TheVariants.{DivideFault}
 use Rattle.x86_machine.specs.Memory.{loaded}
 use Rattle.x86_machine.specs.State.{State, reg}
 use Rattle.x86_machine.specs.Next.{next, outcome_of}
-use Rattle.x86_decode.specs.Reading.{first_instr}
+use Rattle.x86_spelling.specs.Spells.{SpellsPrefix}
 use Rattle.step_replay.specs.declared.rows.Recorded.{Recorded}
 use Rattle.step_replay.specs.declared.rows.Goal.{Goal}
 use Rattle.step_replay.specs.declared.rows.TheConstants.{CELL, CODE}
@@ -48,4 +48,4 @@ Reaches s i choice (Some goal) =
 -- an instruction begins the bytes, and its step went where the recorded one did
 abbrev pub Agrees : State → List ℕ → ℕ → Option Goal → Type 0
 Agrees s code choice goal =
-    (i : Instr) × (first_instr s.rip code ≡ Some i) × Reaches s i choice goal
+    (i : Instr) × (i.addr ≡ s.rip) × SpellsPrefix i code × Reaches s i choice goal

@@ -58,7 +58,7 @@ fn goal_of_words(words: &mut SplitWhitespace<'_>, mask: u8) -> Option<Goal> {
 }
 
 /// The step of a line. None where the line has not the form of tools/record_steps.c, or memory is refused.
-pub fn row_of(alloc: Global, line: &str) -> Option<Row> {
+pub(crate) fn row_of(alloc: Global, line: &str) -> Option<Row> {
     let mut words = line.split_whitespace();
     let code = hex::decode(alloc, words.next()?).ok()?;
     let before = state_of_words(&mut words)?;

@@ -4,3 +4,4 @@ pub mod MergeLemmas
 pub mod SumLemmas
 pub mod AtomLemmas
 pub mod OffsetLemmas
+pub mod AddressLemmas

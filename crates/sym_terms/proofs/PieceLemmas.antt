@@ -7,6 +7,7 @@ use Rattle.std.specs.Ordering.{ordering_then, is_ne, nat_cmp, MatchOrdering}
 use Rattle.std.specs.Cmp.{nat_cmp_is}
 use Rattle.sym_terms.specs.declared.sum.Atom.{Atom}
 use Rattle.sym_terms.specs.Plain.{sum, none, more, constant_alone, symbol_alone}
+use Rattle.sym_terms.specs.Nodes.{nodes_of_pieces, nodes_of_atom}
 use Rattle.sym_terms.specs.Order.{pieces_cmp, atom_cmp}
 use Rattle.sym_terms.specs.View.{plain, pieces}
 use Rattle.sym_terms.specs.declared.kinds.Fit.{Fit}
@@ -96,3 +97,15 @@ pub two_atoms : (c : ℕ) (xs : List (Atom × ℕ)) → 2 ≤ length xs → None
 two_atoms c [] h = absurd (omega arith)
 two_atoms c (x ∷ []) h = absurd (omega arith)
 two_atoms c (x ∷ y ∷ xs) h = refl
+
+-- pieces from a place on have no more nodes than all of them
+nodes_of_rest : (xs : List (Atom × ℕ)) (i : ℕ) → nodes_of_pieces (pieces (drop i xs)) ≤ nodes_of_pieces (pieces xs)
+nodes_of_rest [] zero = omega arith
+nodes_of_rest [] (suc i) = omega arith
+nodes_of_rest (x ∷ xs) zero = omega arith
+nodes_of_rest (x ∷ xs) (suc i) = omega (arith, nodes_of_rest xs i)
+
+-- nor has a piece among them
+pub nodes_of_one : (xs : List (Atom × ℕ)) (i : ℕ) (x : Atom × ℕ) → x ≡ slice_index_or xs i x → i < length xs
+    → nodes_of_atom (plain x.0) ≤ nodes_of_pieces (pieces xs)
+nodes_of_one xs i x e h = omega (arith, nodes_of_rest xs i, ap nodes_of_pieces (pieces_at xs i x e h))

@@ -64,7 +64,7 @@ mutual
       ∙ ap (ordering_then (atom_cmp a b)) (sym (then_assoc (nat_cmp k l) (pieces_cmp xs ys) (lex r s)))
       ∙ sym (then_assoc (atom_cmp a b) (ordering_then (nat_cmp k l) (pieces_cmp xs ys)) (lex r s))
 
-  atom_lex : (a b : PlainAtom) (r s : List ℕ)
+  pub atom_lex : (a b : PlainAtom) (r s : List ℕ)
       → slice_cmp nat_cmp (atom_code a r) (atom_code b s) ≡ ordering_then (atom_cmp a b) (slice_cmp nat_cmp r s)
   atom_lex (symbol s) (symbol t) r q =
       sym (then_assoc (nat_cmp (sym_rank s) (sym_rank t)) (nat_cmp (sym_number s) (sym_number t)) (lex r q))
@@ -188,7 +188,7 @@ mutual
       λ i. paired (pair_same p q first.0 i) (sum_same a c both.0 i) (sum_same b d both.1 i)
 
 -- an order, and then Equal, is that order
-then_itself : (o : Ordering) → ordering_then o Equal ≡ o
+pub then_itself : (o : Ordering) → ordering_then o Equal ≡ o
 then_itself Less = refl
 then_itself Equal = refl
 then_itself Greater = refl

@@ -2,6 +2,8 @@ pub mod Limits
 pub mod Plain
 pub mod View
 pub mod Nodes
+pub mod PieceCodes
+pub mod Held
 pub mod Falls
 pub mod Order
 pub mod Codes
@@ -10,3 +12,6 @@ pub mod Numbers
 pub mod Value
 pub mod Normal
 pub mod Loose
+pub mod Place
+pub mod Digest
+pub mod Equality

@@ -5,15 +5,17 @@ use Rattle.sym_terms.specs.declared.kinds.Sym.TheVariants.{Entry, Ra, FsBase, Na
 use Rattle.sym_terms.specs.declared.kinds.Fit.{Fit}
 use Rattle.sym_terms.specs.declared.kinds.Pair.{Pair}
 
--- `sum c xs` is the constant c and the pieces xs, each an atom times its coefficient
 mutual
+  -- `sum c xs` is the constant c and the pieces xs
   pub data PlainSum : Type 0 where
     sum : (constant : ℕ) → (pieces : Summands) → PlainSum
 
+  -- pieces, each an atom times its coefficient
   pub data Summands : Type 0 where
     none : Summands
     more : (atom : PlainAtom) → (coefficient : ℕ) → (rest : Summands) → Summands
 
+  -- a symbol, a fit of a term, or a pair of two terms
   pub data PlainAtom : Type 0 where
     symbol : Sym → PlainAtom
     fitted : Fit → PlainSum → PlainAtom

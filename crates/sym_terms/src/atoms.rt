@@ -6,19 +6,18 @@ ghost use Rattle.sym_terms.specs.Normal.{fit_bits, kept_bits, atom_bits, fit_is_
 use crate::kinds::{Fit, Pair};
 use crate::linear::add_scaled;
 use crate::numbers::{fit_number, pair_number};
-use crate::sum::{Atom, Sum};
+use crate::sum::{Atom, PieceList, Sum};
 use no_memory::NoMemory;
-use sqlite_items::{Boxed, Items};
-use std::alloc::{AllocError, Global};
+use sqlite_items::Boxed;
+use std::alloc::Global;
 
-pub fn atom_alone(alloc: Global, atom: Atom) -> Result<Sum, NoMemory>
-    ensures { IfOk result (λ s. s ≡ single_atom (plain atom)) }
+pub fn atom_alone(atom: Atom) -> Sum
+    ensures { result ≡ single_atom (plain atom) }
 {
-    let atoms = Vec::from_array(alloc, [(atom, 1)]).map_err(AllocError::from)?;
-    Ok(Sum {
+    Sum {
         constant: 0,
-        atoms: Items::from_vec(atoms),
-    })
+        atoms: PieceList::one(atom, 1),
+    }
 }
 
 /// The fit of a sum in normal form, whatever the nodes of the result.
@@ -27,13 +26,13 @@ pub fn fit_sum(alloc: Global, kind: Fit, argument: &Sum) -> Result<Sum, NoMemory
     ensures { IfOk result (λ s. s ≡ fit kind argument.now) }
 {
     if let Some(constant) = argument.as_constant() {
-        return Ok(Sum::constant(alloc, fit_number(kind, constant)));
+        return Ok(Sum::constant(fit_number(kind, constant)));
     }
     if is_kept(kind, argument) {
         return argument.copy(alloc);
     }
     let argument = Boxed::new(alloc, argument.copy(alloc)?)?;
-    atom_alone(alloc, Atom::Fit(kind, argument))
+    Ok(atom_alone(Atom::Fit(kind, argument)))
 }
 
 fn is_kept(kind: Fit, argument: &Sum) -> bool
@@ -86,9 +85,9 @@ pub fn pair_sums(alloc: Global, kind: Pair, left: &Sum, right: &Sum) -> Result<S
     ensures { IfOk result (λ s. s ≡ pair kind left.now right.now) }
 {
     match (kind, left.as_constant(), right.as_constant()) {
-        (_, Some(x), Some(y)) => Ok(Sum::constant(alloc, pair_number(kind, x, y))),
-        (Pair::Mul, Some(x), None) => add_scaled(alloc, &Sum::constant(alloc, 0), x, right),
-        (Pair::Mul, None, Some(y)) => add_scaled(alloc, &Sum::constant(alloc, 0), y, left),
+        (_, Some(x), Some(y)) => Ok(Sum::constant(pair_number(kind, x, y))),
+        (Pair::Mul, Some(x), None) => add_scaled(alloc, &Sum::constant(0), x, right),
+        (Pair::Mul, None, Some(y)) => add_scaled(alloc, &Sum::constant(0), y, left),
         _ => pair_atom(alloc, kind, left, right),
     }
 }
@@ -98,11 +97,11 @@ fn pair_atom(alloc: Global, kind: Pair, left: &Sum, right: &Sum) -> Result<Sum, 
 {
     match kind {
         Pair::And | Pair::Or if left.compare(right).is_eq() => left.copy(alloc),
-        Pair::Xor if left.compare(right).is_eq() => Ok(Sum::constant(alloc, 0)),
+        Pair::Xor if left.compare(right).is_eq() => Ok(Sum::constant(0)),
         _ => {
             let left = Boxed::new(alloc, left.copy(alloc)?)?;
             let right = Boxed::new(alloc, right.copy(alloc)?)?;
-            atom_alone(alloc, Atom::Pair(kind, left, right))
+            Ok(atom_alone(Atom::Pair(kind, left, right)))
         }
     }
 }

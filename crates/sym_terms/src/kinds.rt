@@ -42,7 +42,7 @@ pub enum Pair {
 }
 
 impl Sym {
-    fn rank(self) -> u8
+    pub(crate) fn rank(self) -> u8
         ensures { result ≡ sym_rank self }
     {
         match self {
@@ -53,7 +53,7 @@ impl Sym {
         }
     }
 
-    fn number(self) -> u64
+    pub(crate) fn number(self) -> u64
         ensures { result ≡ sym_number self }
     {
         match self {
@@ -67,9 +67,14 @@ impl Sym {
     pub fn compare(self, other: Sym) -> Ordering
         ensures { result ≡ sym_cmp self other }
     {
-        self.rank()
-            .cmp(&other.rank())
-            .then(self.number().cmp(&other.number()))
+        match (self, other) {
+            (Sym::Entry(register), Sym::Entry(other)) => register.cmp(&other),
+            (Sym::Named(address), Sym::Named(other)) => address.cmp(&other),
+            _ => self
+                .rank()
+                .cmp(&other.rank())
+                .then(self.number().cmp(&other.number())),
+        }
     }
 }
 

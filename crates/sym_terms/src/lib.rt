@@ -4,13 +4,15 @@
 #![tactic(auto)]
 
 mod atoms;
+mod equality;
 mod kinds;
 mod linear;
 mod numbers;
+mod place;
 mod sum;
 mod term;
 
 pub use kinds::{Fit, Pair, Sym};
 pub use no_memory::NoMemory;
-pub use sum::{Atom, Sum};
+pub use sum::{Atom, PieceList, Sum};
 pub use term::{MOST_NODES, Term, copy_known};

@@ -1,11 +1,10 @@
-ghost use Rattle.std.specs.Prelude.{◌≡◌, ◌++◌, IfOk, OnOk};
+ghost use Rattle.std.specs.Prelude.{◌≡◌, ◌++◌, IfOk};
 ghost use Rattle.sym_terms.specs.View.{pieces, piece_or_none, multiples};
 ghost use Rattle.sym_terms.specs.Plain.{sum, none};
 ghost use Rattle.sym_terms.specs.Normal.{plus, plus_times, plus_times_pieces};
 
-use crate::sum::{Atom, Sum, with_room};
+use crate::sum::{Atom, PieceList, Sum};
 use no_memory::NoMemory;
-use sqlite_items::Items;
 use std::alloc::Global;
 use std::cmp::Ordering;
 
@@ -45,10 +44,11 @@ fn merge(
     left: &[(Atom, u64)],
     factor: u64,
     right: &[(Atom, u64)],
-) -> Result<Items<(Atom, u64)>, NoMemory>
+) -> Result<PieceList, NoMemory>
     ensures { IfOk result (λ out. pieces out ≡ plus_times_pieces (pieces left.now) factor (pieces right.now)) }
 {
-    let mut out = with_room(alloc, left.len().saturating_add(right.len()))?;
+    let room = left.len().saturating_add(right.len());
+    let mut out = PieceList::new();
     let mut i = 0;
     let mut j = 0;
     while i < left.len() && j < right.len() {
@@ -56,64 +56,69 @@ fn merge(
         let (b, l) = &right[j];
         match a.compare(b) {
             Ordering::Less => {
-                out.push((a.copy(alloc)?, *k))?;
+                out = out.push(alloc, room, (a.copy(alloc)?, *k))?;
                 i += 1;
             }
             Ordering::Equal => {
                 let coefficient = k.wrapping_add(factor.wrapping_mul(*l));
-                push_piece(alloc, &mut out, a, coefficient)?;
+                out = push_piece(alloc, out, room, a, coefficient)?;
                 i += 1;
                 j += 1;
             }
             Ordering::Greater => {
-                push_piece(alloc, &mut out, b, factor.wrapping_mul(*l))?;
+                out = push_piece(alloc, out, room, b, factor.wrapping_mul(*l))?;
                 j += 1;
             }
         }
     }
-    push_copies(alloc, &mut out, &left[i..])?;
-    push_multiples(alloc, &mut out, factor, &right[j..])?;
-    Ok(out)
+    let kept = push_copies(alloc, out, room, &left[i..])?;
+    let all = push_multiples(alloc, kept, room, factor, &right[j..])?;
+    Ok(all)
 }
 
 // A coefficient of 0 leaves no piece.
 fn push_piece(
     alloc: Global,
-    out: &mut Items<(Atom, u64)>,
+    out: PieceList,
+    room: usize,
     atom: &Atom,
     coefficient: u64,
-) -> Result<(), NoMemory>
-    ensures { OnOk result (out.new ≡ out.old ++ piece_or_none atom.now coefficient) }
+) -> Result<PieceList, NoMemory>
+    ensures { IfOk result (λ all. all ≡ out ++ piece_or_none atom.now coefficient) }
 {
-    if coefficient != 0 {
-        out.push((atom.copy(alloc)?, coefficient))?;
+    if coefficient == 0 {
+        return Ok(out);
     }
-    Ok(())
+    out.push(alloc, room, (atom.copy(alloc)?, coefficient))
 }
 
 fn push_copies(
     alloc: Global,
-    out: &mut Items<(Atom, u64)>,
+    out: PieceList,
+    room: usize,
     atoms: &[(Atom, u64)],
-) -> Result<(), NoMemory>
-    ensures { OnOk result (out.new ≡ out.old ++ atoms.now) }
+) -> Result<PieceList, NoMemory>
+    ensures { IfOk result (λ all. all ≡ out ++ atoms.now) }
 {
+    let mut out = out;
     for (atom, coefficient) in atoms {
-        out.push((atom.copy(alloc)?, *coefficient))?;
+        out = out.push(alloc, room, (atom.copy(alloc)?, *coefficient))?;
     }
-    Ok(())
+    Ok(out)
 }
 
 fn push_multiples(
     alloc: Global,
-    out: &mut Items<(Atom, u64)>,
+    out: PieceList,
+    room: usize,
     factor: u64,
     atoms: &[(Atom, u64)],
-) -> Result<(), NoMemory>
-    ensures { OnOk result (out.new ≡ out.old ++ multiples factor atoms.now) }
+) -> Result<PieceList, NoMemory>
+    ensures { IfOk result (λ all. all ≡ out ++ multiples factor atoms.now) }
 {
+    let mut out = out;
     for (atom, coefficient) in atoms {
-        push_piece(alloc, out, atom, factor.wrapping_mul(*coefficient))?;
+        out = push_piece(alloc, out, room, atom, factor.wrapping_mul(*coefficient))?;
     }
-    Ok(())
+    Ok(out)
 }

@@ -1,4 +1,4 @@
-ghost use Rattle.std.specs.Prelude.{◌≡◌, ◌<◌, ◌^◌, [], IfOk};
+ghost use Rattle.std.specs.Prelude.{◌≡◌, ◌<◌, ◌^◌, [], ◌∷◌, ◌++◌, ◌↔◌, length, IsTrue, IfOk, OnOk};
 ghost use Rattle.sym_terms.specs.Plain.{sum, none, constant_alone, symbol_alone, symbol_of};
 ghost use Rattle.sym_terms.specs.View.{plain, pieces};
 ghost use Rattle.sym_terms.specs.Nodes.{nodes, nodes_of_pieces, nodes_of_atom};
@@ -9,6 +9,7 @@ use crate::kinds::{Fit, Pair, Sym};
 use no_memory::NoMemory;
 use sqlite_items::{Boxed, Items};
 use std::alloc::Global;
+use std::array::from_ref;
 use std::cmp::Ordering;
 use std::marker::Model;
 
@@ -21,12 +22,50 @@ pub enum Atom {
     Pair(Pair, Boxed<Sum>, Boxed<Sum>),
 }
 
+#[cycle(terms)]
+#[derive(Drop)]
+enum HeldPieces {
+    Nothing,
+    One((Atom, u64)),
+    Several(Items<(Atom, u64)>),
+}
+
+/// Atoms with their coefficients. Up to one of them takes no memory of its own.
+#[cycle(terms)]
+#[derive(Drop)]
+pub struct PieceList {
+    held: HeldPieces,
+}
+
+impl Model for PieceList {
+    ghost use Rattle.std.specs.Prelude.{List, ℕ};
+    ghost use Rattle.sym_terms.specs.declared.sum.Atom.{Atom};
+    ghost use Rattle.sym_terms.specs.PieceCodes.{coded_pieces};
+
+    ghost Value = { List (Atom × ℕ) };
+
+    ghost coded = { coded_pieces };
+
+    ghost use Rattle.sym_terms.specs.Held.{listed};
+    ghost use Rattle.sym_terms.specs.Nodes.{nodes_of_pieces};
+    ghost use Rattle.sym_terms.specs.View.{pieces};
+
+    ghost view = { λ p. listed p.held };
+
+    ghost size = { λ xs. nodes_of_pieces (pieces xs) };
+
+    ghost use Rattle.std.proofs.Common.{arith};
+    ghost use Rattle.sym_terms.specs.Falls.{held_le-nodes};
+
+    ghost size_decreases = { λ p h. omega (arith, held_le-nodes p.held) };
+}
+
 /// A constant and atoms with their coefficients, all modulo 2^64. A sum alone keeps no form: `Term` does.
 #[cycle(terms)]
 #[derive(Drop)]
 pub struct Sum {
     pub constant: u64,
-    pub atoms: Items<(Atom, u64)>,
+    pub atoms: PieceList,
 }
 
 impl Model for Sum {
@@ -46,18 +85,98 @@ impl Model for Sum {
     ghost size = { nodes };
 
     ghost use Rattle.std.proofs.Common.{arith};
-    ghost use Rattle.sym_terms.specs.Falls.{weight_le-nodes};
 
-    ghost size_decreases = { λ s h. omega (arith, weight_le-nodes s.atoms) };
+    ghost size_decreases = { λ s h. omega arith };
+}
+
+impl PieceList {
+    /// No pieces; takes no memory.
+    pub(crate) fn new() -> PieceList
+        ensures { result ≡ [] }
+    {
+        PieceList {
+            held: HeldPieces::Nothing,
+        }
+    }
+
+    /// One piece; takes no memory.
+    pub(crate) fn one(atom: Atom, coefficient: u64) -> PieceList
+        ensures { result ≡ (atom, coefficient) ∷ [] }
+    {
+        PieceList {
+            held: HeldPieces::One((atom, coefficient)),
+        }
+    }
+
+    fn several(pieces: Items<(Atom, u64)>) -> PieceList
+        ensures { result ≡ pieces }
+    {
+        PieceList {
+            held: HeldPieces::Several(pieces),
+        }
+    }
+
+    /// The pieces, by ascending atoms where the sum is in normal form.
+    pub fn as_slice(&self) -> &[(Atom, u64)]
+        ensures { result.now ≡ self.now }
+    {
+        match &self.held {
+            HeldPieces::Nothing => &[],
+            HeldPieces::One(piece) => from_ref(piece),
+            HeldPieces::Several(pieces) => pieces.as_slice(),
+        }
+    }
+
+    /// The number of pieces.
+    pub fn len(&self) -> usize
+        ensures { result ≡ length self.now }
+    {
+        self.as_slice().len()
+    }
+
+    /// Whether there are no pieces.
+    pub fn is_empty(&self) -> bool
+        ensures { IsTrue result ↔ (self.now ≡ []) }
+    {
+        self.as_slice().is_empty()
+    }
+
+    /// Adds a piece at the end. The second one takes memory, at once for as many pieces as `room`.
+    pub(crate) fn push(
+        self,
+        alloc: Global,
+        room: usize,
+        piece: (Atom, u64),
+    ) -> Result<PieceList, NoMemory>
+        ensures { IfOk result (λ all. all ≡ self ++ piece ∷ []) }
+    {
+        let PieceList { held } = self;
+        match held {
+            HeldPieces::Nothing => Ok(PieceList {
+                held: HeldPieces::One(piece),
+            }),
+            HeldPieces::One(first) => {
+                let mut pieces = with_room(alloc, room)?;
+                pieces.push(first)?;
+                pieces.push(piece)?;
+                Ok(PieceList::several(pieces))
+            }
+            HeldPieces::Several(pieces) => {
+                let mut pieces = pieces;
+                pieces.push(piece)?;
+                Ok(PieceList::several(pieces))
+            }
+        }
+    }
 }
 
 impl Sum {
-    pub(crate) fn constant(alloc: Global, constant: u64) -> Sum
+    pub(crate) fn constant(constant: u64) -> Sum
         ensures { result ≡ sum constant none }
     {
         Sum {
             constant,
-            atoms: Items::new(alloc),
+            atoms: PieceList::new(),
         }
     }
 
@@ -244,7 +363,18 @@ pub(crate) fn compare_pieces(left: &[(Atom, u64)], right: &[(Atom, u64)]) -> Ord
 }
 
 #[cycle(copy)]
-fn copy_pieces(alloc: Global, atoms: &[(Atom, u64)]) -> Result<Items<(Atom, u64)>, NoMemory>
+fn copy_pieces(alloc: Global, atoms: &[(Atom, u64)]) -> Result<PieceList, NoMemory>
+    ensures { IfOk result (λ copies. copies ≡ atoms.now) }
+{
+    match atoms {
+        [] => Ok(PieceList::new()),
+        [(atom, coefficient)] => Ok(PieceList::one(atom.copy(alloc)?, *coefficient)),
+        _ => Ok(PieceList::several(copy_items(alloc, atoms)?)),
+    }
+}
+
+#[cycle(copy)]
+fn copy_items(alloc: Global, atoms: &[(Atom, u64)]) -> Result<Items<(Atom, u64)>, NoMemory>
     ensures { IfOk result (λ copies. copies ≡ atoms.now) }
 {
     let mut copies = with_room(alloc, atoms.len())?;
@@ -255,7 +385,7 @@ fn copy_pieces(alloc: Global, atoms: &[(Atom, u64)]) -> Result<Items<(Atom, u64)
 }
 
 /// No pieces, with room for this many.
-pub(crate) fn with_room(alloc: Global, room: usize) -> Result<Items<(Atom, u64)>, NoMemory>
+fn with_room(alloc: Global, room: usize) -> Result<Items<(Atom, u64)>, NoMemory>
     ensures { IfOk result (λ pieces. pieces ≡ []) }
 {
     let pieces = Vec::with_capacity(alloc, room)?;

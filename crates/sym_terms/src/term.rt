@@ -5,10 +5,12 @@ ghost use Rattle.sym_terms.specs.Nodes.{nodes};
 ghost use Rattle.sym_terms.specs.Order.{sum_cmp};
 ghost use Rattle.sym_terms.specs.Mentions.{mentions};
 ghost use Rattle.sym_terms.specs.Normal.{plus, minus, times, fit, pair, within_node_limit, IsNormal, IsTerm};
+ghost use Rattle.sym_terms.specs.Place.{place_of};
 
 use crate::atoms::{atom_alone, fit_sum, pair_sums};
 use crate::kinds::{Fit, Pair, Sym};
 use crate::linear::add_scaled;
+use crate::place::place_sum;
 use crate::sum::{Atom, Sum, compare_pieces};
 use no_memory::NoMemory;
 use std::alloc::Global;
@@ -46,7 +48,7 @@ impl Term {
         ensures { result ≡ sum c none }
     {
         Term {
-            sum: Sum::constant(alloc, c),
+            sum: Sum::constant(c),
         }
     }
 
@@ -55,8 +57,9 @@ impl Term {
         requires { IsSymbol s }
         ensures { IfOk result (λ t. t ≡ single_atom (symbol s)) }
     {
-        let sum = atom_alone(alloc, Atom::Sym(s))?;
-        Ok(Term { sum })
+        Ok(Term {
+            sum: atom_alone(Atom::Sym(s)),
+        })
     }
 
     /// `self + other` modulo 2^64, and `None` exactly where that has over 32 nodes.
@@ -89,7 +92,23 @@ impl Term {
     pub fn scale(&self, alloc: Global, k: u64) -> Result<Option<Term>, NoMemory>
         ensures { IfOk result (λ t. t ≡ within_node_limit (times k self.now)) }
     {
-        let sum = add_scaled(alloc, &Sum::constant(alloc, 0), k, &self.sum)?;
+        let sum = add_scaled(alloc, &Sum::constant(0), k, &self.sum)?;
+        Ok(small(sum))
+    }
+
+    /// `self + k * index + disp`, and the FS base where `fs`, modulo 2^64, and `None` exactly where that has
+    /// over 32 nodes: the parts of the sum have no limit of their own.
+    pub fn place(
+        &self,
+        alloc: Global,
+        k: u64,
+        index: &Term,
+        disp: u64,
+        fs: bool,
+    ) -> Result<Option<Term>, NoMemory>
+        ensures { IfOk result (λ t. t ≡ within_node_limit (place_of self.now k index.now disp fs)) }
+    {
+        let sum = place_sum(alloc, &self.sum, k, &index.sum, disp, fs)?;
         Ok(small(sum))
     }
 

@@ -30,28 +30,6 @@ impl Op {
         ensures { result ≡ class_of self }
     {
         match self {
-            Op::Add
-            | Op::Or
-            | Op::Adc
-            | Op::Sbb
-            | Op::And
-            | Op::Sub
-            | Op::Xor
-            | Op::Cmp
-            | Op::Test
-            | Op::Not
-            | Op::Neg
-            | Op::Mul
-            | Op::Imul1
-            | Op::Imul2
-            | Op::Imul3
-            | Op::Inc
-            | Op::Dec
-            | Op::Rol
-            | Op::Ror
-            | Op::Shl
-            | Op::Shr
-            | Op::Sar => Class::Calculation,
             Op::Mov
             | Op::Lea
             | Op::Movzx
@@ -72,6 +50,7 @@ impl Op {
             Op::Ret => Class::Return,
             Op::Syscall => Class::SystemCall,
             Op::Hlt | Op::Ud2 | Op::Int3 => Class::Stop,
+            _ => Class::Calculation,
         }
     }
 }

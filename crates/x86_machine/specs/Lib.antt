@@ -5,6 +5,7 @@ pub mod Steps
 pub mod Moves
 pub mod Next
 pub mod Named
+pub mod NameParts
 pub mod Preserves
 pub mod StepLaws
 pub mod NamedLaws

@@ -6,7 +6,9 @@ mod advance;
 mod machine;
 mod memory;
 mod moves;
+mod named;
 mod steps;
 
 pub use machine::{Machine, Outcome};
+pub use named::{named_register, names_store};
 pub use no_memory::NoMemory;

@@ -1,5 +1,6 @@
-use Rattle.std.proofs.Common.{IfSome, sym, subst, ◌∙◌, arith}
+use Rattle.std.proofs.Common.{IfSome, drop, subst, arith}
 use Rattle.x86_instr.specs.Fits.{InForm}
+use Rattle.decode_bench.specs.Sweep.{Begins}
 use Rattle.decode_bench.specs.Sweep.Sweeps.{begins}
 use Rattle.decode_bench.proofs.SweepLemmas.{past_instruction, past_byte, inside}
 use Rattle.decode_bench.proofs.listing.count_instructions.Goals as goal
@@ -17,13 +18,15 @@ loop-at-preserved c =
     elim c.if-at-next.branch [
       | then-at-next+in-Some w ↦
           let form : InForm w.in-Some.i = subst (λ o. IfSome o InForm) w.in-Some.is w.instruction_at.ensures.in_form in
+          let found : Begins at (drop at code) w.in-Some.i =
+          subst (λ o. IfSome o (Begins at (drop at code))) w.in-Some.is w.instruction_at.ensures.found in
           rw (w.next-is, w.count-is)
           (past_instruction code at next count w.in-Some.i c.loop-at-test.true w.if-at-next.true
-          (sym w.instruction_at.ensures.value ∙ w.in-Some.is) form c.loop-at.invariant)
+          found form c.loop-at.invariant)
       | then-at-next+in_default w ↦
           rw (w.next-is, w.count-is)
           (past_byte code at next count c.loop-at-test.true w.if-at-next.true
-          (sym w.instruction_at.ensures.value ∙ w.in_default.is) c.loop-at.invariant)
+          (w.instruction_at.ensures.none.0 w.in_default.is) c.loop-at.invariant)
       | else-at-next w ↦
           rw (w.next-is, w.count-is) (inside code at next count w.if-at-next.false c.loop-at.invariant)
     ]

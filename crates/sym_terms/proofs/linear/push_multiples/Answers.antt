@@ -5,7 +5,7 @@ use Rattle.sym_terms.proofs.linear.push_multiples.Goals as goal
 
 pub loop-atom-preserved : goal.loop-atom-preserved
 loop-atom-preserved c =
-    rw c.in_ok-push_piece.ensures (multiples_at _ _ _ _ _ c.loop-atom-item.is c.loop-atom-test.true ∙ c.loop-atom.invariant)
+    rw c.in_ok-out.ensures (multiples_at _ _ _ _ _ c.loop-atom-item.is c.loop-atom-test.true ∙ c.loop-atom.invariant)
 
 pub returns : goal.returns
 returns c =
