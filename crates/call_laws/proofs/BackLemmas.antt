@@ -23,13 +23,13 @@ use Rattle.predicate_meaning.specs.Sat.{register, BoundHolds, Sat}
 use Rattle.step_rules.specs.Access.{with_register}
 use Rattle.step_rules.specs.Steps.{with_flags as with_fact}
 use Rattle.step_rules.specs.Calls.{begin, changed_by, cleared, with_kept, came_back, begun, after}
-use Rattle.step_values.proofs.Ground.{Ground}
-use Rattle.step_values.proofs.Scene.{with_name}
-use Rattle.step_values.proofs.MeansLemmas.{tells_as, means_as, means_symbol}
-use Rattle.step_access.proofs.DropLemmas.{sat_without}
-use Rattle.step_access.proofs.AccessLemmas.{set_here, sat_term, reg_below}
-use Rattle.step_access.proofs.RangeLemmas.{renamed_range}
-use Rattle.step_access.proofs.SceneLemmas.{only_name, new_name}
+use Rattle.value_laws.proofs.Ground.{Ground}
+use Rattle.value_laws.proofs.Scene.{with_name}
+use Rattle.value_laws.proofs.MeansLemmas.{tells_as, means_as, means_symbol}
+use Rattle.access_laws.proofs.DropLemmas.{sat_without}
+use Rattle.access_laws.proofs.AccessLemmas.{set_here, sat_term, reg_below}
+use Rattle.access_laws.proofs.RangeLemmas.{renamed_range}
+use Rattle.access_laws.proofs.SceneLemmas.{only_name, new_name}
 
 some_is : {A : Type 0} → (x y : A) → Some x ≡ Some y → x ≡ y
 some_is x y e = cc

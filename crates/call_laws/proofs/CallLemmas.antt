@@ -15,7 +15,7 @@ use Rattle.x86_machine.specs.Memory.{stored}
 use Rattle.x86_machine.specs.State.{State, IsState, reg, with_bytes}
 use Rattle.x86_machine.specs.Next.{next_address}
 use Rattle.forest_meaning.specs.Assumed.{Keeps}
-use Rattle.step_values.proofs.Ground.{Ground}
+use Rattle.value_laws.proofs.Ground.{Ground}
 use Rattle.forest_laws.specs.Laws.{SameNumbers}
 use Rattle.step_rules.specs.View.{View}
 use Rattle.step_rules.specs.Terms.{number}
@@ -23,9 +23,9 @@ use Rattle.step_rules.specs.Calls.{begun}
 use Rattle.step_rules.specs.Moves.{below_top}
 use Rattle.predicate_meaning.specs.Sat.{Sat}
 use Rattle.call_laws.proofs.BackLemmas.{began_by, is_changed, after_holds}
-use Rattle.step_values.proofs.MeansLemmas.{means_as, means_number}
+use Rattle.value_laws.proofs.MeansLemmas.{means_as, means_number}
 use Rattle.call_laws.specs.Calls.{Calls, BackFromCall, BackFromSyscall, CallLaw, SyscallLaw}
-use Rattle.step_access.proofs.PushLemmas.{tells_top, stored_below}
+use Rattle.access_laws.proofs.PushLemmas.{tells_top, stored_below}
 use Rattle.x86_instr.specs.declared.class.Class.TheVariants as class
 use Rattle.x86_machine.specs.Moves as machine_moves
 

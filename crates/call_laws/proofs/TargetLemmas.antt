@@ -18,7 +18,7 @@ use Rattle.x86_instr.specs.Kinds.{Kinds, dst_kinds, has_width, widths_of, quad_o
 use Rattle.x86_machine.specs.State.{State, IsState, reg, with_rip}
 use Rattle.x86_machine.specs.Access.{address, read}
 use Rattle.x86_machine.specs.Named.{names_by}
-use Rattle.step_values.proofs.Ground.{ForestLaws, Ground}
+use Rattle.value_laws.proofs.Ground.{ForestLaws, Ground}
 use Rattle.step_rules.specs.View.{View}
 use Rattle.step_rules.specs.Names.{name, name_term, if_stored}
 use Rattle.step_rules.specs.Drop.{dropped}
@@ -26,12 +26,12 @@ use Rattle.predicate_meaning.specs.Sat.{register, Sat}
 use Rattle.step_rules.specs.Access.{address_term, store_term, known_term}
 use Rattle.step_rules.specs.Calls.{target_by}
 use Rattle.forest_meaning.specs.Holds.{Tells}
-use Rattle.step_values.proofs.MeansLemmas.{tells_or, tells_cut, means_number}
-use Rattle.step_access.proofs.DropLemmas.{sat_without}
-use Rattle.step_access.proofs.SceneLemmas.{some_same}
+use Rattle.value_laws.proofs.MeansLemmas.{tells_or, tells_cut, means_number}
+use Rattle.access_laws.proofs.DropLemmas.{sat_without}
+use Rattle.access_laws.proofs.SceneLemmas.{some_same}
 use Rattle.forest_meaning.specs.Assumed.{Loaded}
 use Rattle.call_laws.specs.Target.{TargetLaw}
-use Rattle.step_access.proofs.ReadLemmas.{address_tells, bytes_tell}
+use Rattle.access_laws.proofs.ReadLemmas.{address_tells, bytes_tell}
 use Rattle.x86_instr.specs.declared.instr.Op.TheVariants as op
 use Rattle.x86_instr.specs.declared.instr.Operand.TheVariants as operand
 use Rattle.x86_machine.specs.Moves as machine_moves

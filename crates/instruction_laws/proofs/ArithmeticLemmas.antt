@@ -29,14 +29,14 @@ use Rattle.step_rules.specs.Results.{name_result, shift_term}
 use Rattle.step_rules.specs.Steps.{with_flags as with_fact, gives, operated, operated_fact, combined, compared, inverted, negated, counted, with_halves, divided, scaled, shifted}
 use Rattle.forest_meaning.specs.Holds.{Tells}
 use Rattle.predicate_meaning.specs.Sat.{FactHolds, Sat}
-use Rattle.step_values.proofs.MeansLemmas.{means_number, tells_as}
-use Rattle.step_access.proofs.AccessLemmas.{sat_rip, sat_flags, name_fits, writes}
-use Rattle.step_access.proofs.SceneLemmas.{some_same}
-use Rattle.step_values.proofs.ResultLemmas.{tells_alu, tells_negated, tells_inverted, tells_product, tells_shift}
-use Rattle.step_values.proofs.FlagLemmas.{fact_alu, fact_negated, name_taken}
+use Rattle.value_laws.proofs.MeansLemmas.{means_number, tells_as}
+use Rattle.access_laws.proofs.AccessLemmas.{sat_rip, sat_flags, name_fits, writes}
+use Rattle.access_laws.proofs.SceneLemmas.{some_same}
+use Rattle.value_laws.proofs.ResultLemmas.{tells_alu, tells_negated, tells_inverted, tells_product, tells_shift}
+use Rattle.value_laws.proofs.FlagLemmas.{fact_alu, fact_negated, name_taken}
 use Rattle.x86_instr.specs.declared.instr.Operand.TheVariants as operand
 use Rattle.x86_machine.specs.Steps as machine
-use Rattle.step_values.proofs.Scene.{Scene, Reads, NameFits, OperandNameFits}
+use Rattle.value_laws.proofs.Scene.{Scene, Reads, NameFits, OperandNameFits}
 use Rattle.instruction_laws.proofs.Moment.{Moment, Leads, range, values, dst_names, first}
 
 pub below_quad : (w : Width) (m : ℕ) → m < 2 ^ bits_of w → m < 2 ^ 64

@@ -26,10 +26,10 @@ use Rattle.step_rules.specs.Tables.{loaded_values}
 use Rattle.step_rules.specs.Cases.{Case, case, jump_cases, goes_on, direct, jumps, jumped, jump_targets, constant_target}
 use Rattle.forest_meaning.specs.Holds.{Means, Tells}
 use Rattle.predicate_meaning.specs.Sat.{Sat}
-use Rattle.step_values.proofs.MeansLemmas.{means_as, means_symbol}
-use Rattle.step_access.proofs.AccessLemmas.{sat_rip}
-use Rattle.step_values.proofs.BoundLemmas.{sat_where, opposite_holds}
-use Rattle.step_values.proofs.TableLemmas.{targets_tell}
+use Rattle.value_laws.proofs.MeansLemmas.{means_as, means_symbol}
+use Rattle.access_laws.proofs.AccessLemmas.{sat_rip}
+use Rattle.value_laws.proofs.BoundLemmas.{sat_where, opposite_holds}
+use Rattle.value_laws.proofs.TableLemmas.{targets_tell}
 use Rattle.x86_instr.specs.declared.instr.Op.TheVariants as op
 use Rattle.x86_instr.specs.declared.instr.Operand.TheVariants as operand
 use Rattle.x86_machine.specs.Moves as machine
@@ -38,8 +38,8 @@ use Rattle.x86_instr.specs.Kinds.{an_immediate, dst_kinds, has_width, widths_of,
 use Rattle.x86_instr.specs.Fits.{IsOperand}
 use Rattle.x86_machine.specs.Access.{read}
 use Rattle.step_rules.specs.Executed.{executed}
-use Rattle.step_values.proofs.Scene.{Scene, Reads}
-use Rattle.step_access.proofs.SceneLemmas.{some_same}
+use Rattle.value_laws.proofs.Scene.{Scene, Reads}
+use Rattle.access_laws.proofs.SceneLemmas.{some_same}
 use Rattle.instruction_laws.specs.StepLaw.{SomeCase}
 use Rattle.instruction_laws.proofs.Moment.{Moment, range, values}
 use Rattle.instruction_laws.proofs.MoveLemmas.{quad_width, name_bound}

@@ -27,10 +27,10 @@ use Rattle.step_rules.specs.Names.{name_term, register_name, if_register}
 use Rattle.step_rules.specs.Results.{name_result}
 use Rattle.step_rules.specs.Moves.{moved}
 use Rattle.step_rules.specs.Executed.{executed}
-use Rattle.step_values.proofs.Scene.{Scene, Reads}
-use Rattle.step_values.proofs.MeansLemmas.{means_number}
-use Rattle.step_access.proofs.AccessLemmas.{sat_rip}
-use Rattle.step_access.proofs.SceneLemmas.{some_same}
+use Rattle.value_laws.proofs.Scene.{Scene, Reads}
+use Rattle.value_laws.proofs.MeansLemmas.{means_number}
+use Rattle.access_laws.proofs.AccessLemmas.{sat_rip}
+use Rattle.access_laws.proofs.SceneLemmas.{some_same}
 use Rattle.instruction_laws.proofs.Moment.{TakesTable, Moment, Leads, values, first, source_width, source_at}
 use Rattle.instruction_laws.proofs.ArithmeticLemmas.{below_quad, combined_holds, compared_holds, inverted_holds, negated_holds, counted_holds, scaled_holds, halves_holds, divided_holds, shifted_holds}
 use Rattle.instruction_laws.proofs.MoveLemmas.{moved_holds, extended_holds, addressed_holds, unknown_holds, byte_holds, exchanged_holds, widened_holds, signed_holds, pushed_holds, popped_holds, left_holds}

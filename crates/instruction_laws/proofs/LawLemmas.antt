@@ -21,10 +21,10 @@ use Rattle.step_rules.specs.Names.{name}
 use Rattle.step_rules.specs.Drop.{dropped}
 use Rattle.step_rules.specs.Cases.{Case, aliased, cases_by}
 use Rattle.step_rules.specs.Executed.{executed}
-use Rattle.step_values.proofs.Ground.{Ground}
-use Rattle.step_values.proofs.Scene.{Scene}
-use Rattle.step_access.proofs.DropLemmas.{sat_without}
-use Rattle.step_access.proofs.SceneLemmas.{scene_after, only_name, same_fs}
+use Rattle.value_laws.proofs.Ground.{Ground}
+use Rattle.value_laws.proofs.Scene.{Scene}
+use Rattle.access_laws.proofs.DropLemmas.{sat_without}
+use Rattle.access_laws.proofs.SceneLemmas.{scene_after, only_name, same_fs}
 use Rattle.instruction_laws.specs.StepLaw.{SomeCase, IsOrdinary, StepLaw}
 use Rattle.instruction_laws.specs.Fork.{ForkLaw}
 use Rattle.instruction_laws.proofs.Moment.{Moment}

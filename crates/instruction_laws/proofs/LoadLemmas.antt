@@ -20,19 +20,19 @@ use Rattle.x86_machine.specs.State.{State, reg}
 use Rattle.x86_machine.specs.Access.{address, read, write, merged}
 use Rattle.x86_machine.specs.Named.{Nothing, names_by, written, value_of}
 use Rattle.forest_meaning.specs.Assumed.{Keeps, Loaded}
-use Rattle.step_values.proofs.Ground.{Ground}
+use Rattle.value_laws.proofs.Ground.{Ground}
 use Rattle.step_rules.specs.View.{View}
 use Rattle.step_rules.specs.Access.{address_term, address_term_of, bytes_term}
 use Rattle.step_rules.specs.Tables.{if_unknown, loaded_values, takes_entry, table_of}
 use Rattle.step_rules.specs.Names.{is_low_register}
 use Rattle.forest_meaning.specs.Holds.{Tells}
 use Rattle.predicate_meaning.specs.Sat.{Sat}
-use Rattle.step_values.proofs.Scene.{Scene}
+use Rattle.value_laws.proofs.Scene.{Scene}
 use Rattle.instruction_laws.proofs.Moment.{TablesHold, TakesTable}
-use Rattle.step_access.proofs.NumberLemmas.{fixed_loaded}
-use Rattle.step_values.proofs.TableLemmas.{extended_by, values_tell}
-use Rattle.step_access.proofs.ReadLemmas.{address_tells, loads_below}
-use Rattle.step_access.proofs.NamedLemmas.{named_by, register_written}
+use Rattle.access_laws.proofs.NumberLemmas.{fixed_loaded}
+use Rattle.value_laws.proofs.TableLemmas.{extended_by, values_tell}
+use Rattle.access_laws.proofs.ReadLemmas.{address_tells, loads_below}
+use Rattle.access_laws.proofs.NamedLemmas.{named_by, register_written}
 use Rattle.instruction_laws.proofs.OperandLemmas.{some_same, quad, narrow, loads_first}
 use Rattle.x86_instr.specs.declared.instr.Op.TheVariants as op
 use Rattle.x86_instr.specs.declared.instr.Operand.TheVariants as operand

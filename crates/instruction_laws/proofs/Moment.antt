@@ -18,9 +18,9 @@ use Rattle.predicate_meaning.specs.Sat.{Sat}
 use Rattle.step_rules.specs.View.{View}
 use Rattle.step_rules.specs.Access.{address_term_of, read_term}
 use Rattle.step_rules.specs.Tables.{loaded_values, table_of}
-use Rattle.step_values.proofs.Ground.{Ground}
-use Rattle.step_values.proofs.Scene.{Scene, Reads, Writes, StackHolds}
-use Rattle.step_access.proofs.SceneLemmas.{names_of}
+use Rattle.value_laws.proofs.Ground.{Ground}
+use Rattle.value_laws.proofs.Scene.{Scene, Reads, Writes, StackHolds}
+use Rattle.access_laws.proofs.SceneLemmas.{names_of}
 
 -- what is needed of the operands of an instruction at a state
 pub record Operands (v : View) (i : Instr) (s : State) (u : Valuation) : Type 0 where

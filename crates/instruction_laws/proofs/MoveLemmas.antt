@@ -32,12 +32,12 @@ use Rattle.step_rules.specs.Names.{name, name_term, register_name, if_register}
 use Rattle.step_rules.specs.Access.{address_term_of, after_read, write_term}
 use Rattle.step_rules.specs.Tables.{table_of, with_values}
 use Rattle.step_rules.specs.Moves.{by_table, moved, extended_by_sign, addressed, exchanged, operand_pushed, popped, after_leave, widened, after_cwd}
-use Rattle.step_values.proofs.Scene.{Scene, Reads, OperandNameFits, Pushes, Pops}
-use Rattle.step_values.proofs.MeansLemmas.{means_symbol, tells_as, tells_cut, tells_signed}
-use Rattle.step_values.proofs.BoundLemmas.{sat_bound}
-use Rattle.step_access.proofs.AccessLemmas.{sat_rip, sat_register, name_fits, writes}
-use Rattle.step_access.proofs.PushLemmas.{tells_lowered, tells_raised}
-use Rattle.step_access.proofs.ReadLemmas.{address_tells}
+use Rattle.value_laws.proofs.Scene.{Scene, Reads, OperandNameFits, Pushes, Pops}
+use Rattle.value_laws.proofs.MeansLemmas.{means_symbol, tells_as, tells_cut, tells_signed}
+use Rattle.value_laws.proofs.BoundLemmas.{sat_bound}
+use Rattle.access_laws.proofs.AccessLemmas.{sat_rip, sat_register, name_fits, writes}
+use Rattle.access_laws.proofs.PushLemmas.{tells_lowered, tells_raised}
+use Rattle.access_laws.proofs.ReadLemmas.{address_tells}
 use Rattle.instruction_laws.proofs.Moment.{TakesTable, Moment, Leads, range, values, dst_names, first, second, source_width, stack_at, source_at}
 use Rattle.instruction_laws.proofs.ArithmeticLemmas.{name_passes, operand_name_fits, write_holds}
 

@@ -24,22 +24,22 @@ use Rattle.x86_machine.specs.Access.{NamesRegisters, address, address_of, read, 
 use Rattle.x86_machine.specs.Named.{Name, Stored, Nothing, names_by, written, loaded_or, exchange_name, value_of}
 use Rattle.machine_laws.proofs.StateLemmas.{reg_below, state_reg, state_write}
 use Rattle.forest_meaning.specs.Assumed.{Keeps, Loaded}
-use Rattle.step_values.proofs.Ground.{Ground}
+use Rattle.value_laws.proofs.Ground.{Ground}
 use Rattle.step_rules.specs.View.{View}
 use Rattle.step_rules.specs.Names.{name_term, names_load, store_name, if_stored, is_low_register}
 use Rattle.predicate_meaning.specs.Sat.{register}
 use Rattle.step_rules.specs.Access.{bytes_term}
 use Rattle.step_rules.specs.Moves.{below_top}
 use Rattle.forest_meaning.specs.Holds.{Tells}
-use Rattle.step_values.proofs.Scene.{Scene, Reads, Writes, Pushes, Pops, StackHolds}
+use Rattle.value_laws.proofs.Scene.{Scene, Reads, Writes, Pushes, Pops, StackHolds}
 use Rattle.instruction_laws.proofs.Moment.{Operands}
-use Rattle.step_values.proofs.MeansLemmas.{tells_as, tells_or, means_below}
-use Rattle.step_access.proofs.AccessLemmas.{reads, writes}
-use Rattle.step_access.proofs.SceneLemmas.{names_of}
-use Rattle.step_access.proofs.ReadLemmas.{place_reads, loads_below, bytes_tell, loaded_holds}
-use Rattle.step_access.proofs.StoreLemmas.{place_writes}
-use Rattle.step_access.proofs.NamedLemmas.{named_register, extends, name_means, load_tells, store_by, named_by}
-use Rattle.step_access.proofs.PushLemmas.{tells_top, stored_below}
+use Rattle.value_laws.proofs.MeansLemmas.{tells_as, tells_or, means_below}
+use Rattle.access_laws.proofs.AccessLemmas.{reads, writes}
+use Rattle.access_laws.proofs.SceneLemmas.{names_of}
+use Rattle.access_laws.proofs.ReadLemmas.{place_reads, loads_below, bytes_tell, loaded_holds}
+use Rattle.access_laws.proofs.StoreLemmas.{place_writes}
+use Rattle.access_laws.proofs.NamedLemmas.{named_register, extends, name_means, load_tells, store_by, named_by}
+use Rattle.access_laws.proofs.PushLemmas.{tells_top, stored_below}
 use Rattle.x86_instr.specs.declared.instr.Op.TheVariants as op
 use Rattle.x86_instr.specs.declared.instr.Operand.TheVariants as operand
 use Rattle.x86_machine.specs.Moves as machine_moves

@@ -10,11 +10,12 @@ use Rattle.predicates.specs.Predicate.{Predicate}
 use Rattle.x86_instr.specs.declared.class.Class.{Class}
 use Rattle.x86_instr.specs.declared.class.Class.TheVariants as class
 use Rattle.x86_instr.specs.declared.instr.Op.{Op}
-use Rattle.x86_instr.specs.declared.instr.Op.TheVariants.{Jcc, Jmp}
 use Rattle.x86_instr.specs.declared.instr.Operand.{Operand}
 use Rattle.x86_instr.specs.declared.instr.Operand.TheVariants as operand
 use Rattle.x86_instr.specs.declared.instr.Instr.{Instr}
 use Rattle.x86_instr.specs.Classes.{class_of}
+use Rattle.x86_instr.specs.Groups.{Group, Calculates, Moves, Stacks, Controls, group_of}
+use Rattle.x86_instr.specs.Groups.{Control, Branching, Jumping, Calling, Returning, Passing, Asking, Stopping}
 use Rattle.x86_machine.specs.Next.{next_address}
 use Rattle.step_rules.specs.View.{View, parted}
 use Rattle.step_rules.specs.Names.{name_term}
@@ -97,11 +98,26 @@ jumps v i p (operand.High r) = jumps_to v i p (operand.High r)
 jumps v i p (operand.Imm n) = Some (case n p ∷ [])
 jumps v i p (operand.Mem pl) = jumps_to v i p (operand.Mem pl)
 
--- the cases of a jump: conditional, or to its operand; no other operation jumps
+-- the cases of control that jumps, conditionally or to its operand; no other does
+abbrev pub control_cases : Control → View → Instr → Predicate → Option (List Case)
+control_cases Branching v i p = Some (branches v i p)
+control_cases Jumping v i p = jumps v i p i.dst
+control_cases Calling v i p = None
+control_cases Returning v i p = None
+control_cases Passing v i p = None
+control_cases Asking v i p = None
+control_cases Stopping v i p = None
+
+-- the cases of a jump, by its group
+abbrev pub jump_cases_in : Group → View → Instr → Predicate → Option (List Case)
+jump_cases_in (Calculates a) v i p = None
+jump_cases_in (Moves m) v i p = None
+jump_cases_in (Stacks s) v i p = None
+jump_cases_in (Controls c) v i p = control_cases c v i p
+
+-- the cases of a jump
 abbrev pub jump_cases : Op → View → Instr → Predicate → Option (List Case)
-jump_cases Jcc v i p = Some (branches v i p)
-jump_cases Jmp v i p = jumps v i p i.dst
-jump_cases _ v i p = None
+jump_cases o v i p = jump_cases_in (group_of o) v i p
 
 -- ---- every instruction
 

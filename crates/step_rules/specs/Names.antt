@@ -5,10 +5,13 @@ use Rattle.sym_terms.specs.declared.kinds.Sym.{Sym}
 use Rattle.sym_terms.specs.declared.kinds.Sym.TheVariants.{Named}
 use Rattle.sym_terms.specs.Plain.{PlainSum, single_atom, symbol}
 use Rattle.x86_instr.specs.declared.instr.Op.{Op}
-use Rattle.x86_instr.specs.declared.instr.Op.TheVariants as op
 use Rattle.x86_instr.specs.declared.instr.Operand.{Operand}
 use Rattle.x86_instr.specs.declared.instr.Operand.TheVariants as operand
 use Rattle.x86_instr.specs.declared.instr.Instr.{Instr}
+use Rattle.x86_instr.specs.Groups.{Group, Calculates, Moves, Stacks, Controls, group_of}
+use Rattle.x86_instr.specs.Groups.{Arithmetic, Combining, Comparing, Inverting, Negating, Counting, Multiplying, Dividing, Scaling, ScalingBy, Shifting}
+use Rattle.x86_instr.specs.Groups.{Movement, Copying, ExtendingZeros, ExtendingSign, Addressing, Exchanging, Widening, SignFilling, Swapping, Choosing, Setting}
+use Rattle.x86_instr.specs.Groups.{Control, Branching, Jumping, Calling, Returning, Passing, Asking, Stopping}
 use Rattle.x86_machine.specs.Named.{Name, Loaded, Register, Stored, Nothing, names}
 use Rattle.step_rules.specs.Terms.{zeros_term}
 
@@ -50,54 +53,52 @@ is_low_register (operand.High r) = false
 is_low_register (operand.Imm n) = false
 is_low_register (operand.Mem pl) = false
 
+-- whether a loaded number is the low bits of what arithmetic names: cmp and test name what they load
+abbrev pub calculation_names_load : Arithmetic → Bool
+calculation_names_load (Combining o) = false
+calculation_names_load (Comparing o) = true
+calculation_names_load Inverting = false
+calculation_names_load Negating = false
+calculation_names_load (Counting o) = false
+calculation_names_load Multiplying = false
+calculation_names_load Dividing = false
+calculation_names_load Scaling = false
+calculation_names_load ScalingBy = false
+calculation_names_load (Shifting o) = false
+
+-- the same of moves of data, where the register that gets the loaded number is one from bit 0 on
+abbrev pub movement_names_load : Movement → Instr → Bool
+movement_names_load Copying i = is_low_register i.dst
+movement_names_load ExtendingZeros i = is_low_register i.dst
+movement_names_load ExtendingSign i = is_low_register i.dst
+movement_names_load Addressing i = false
+movement_names_load Exchanging i = is_low_register i.src
+movement_names_load Widening i = false
+movement_names_load SignFilling i = false
+movement_names_load Swapping i = false
+movement_names_load Choosing i = false
+movement_names_load Setting i = false
+
+-- the same of control: a jump names the target that it loads
+abbrev pub control_names_load : Control → Bool
+control_names_load Branching = false
+control_names_load Jumping = true
+control_names_load Calling = false
+control_names_load Returning = false
+control_names_load Passing = false
+control_names_load Asking = false
+control_names_load Stopping = false
+
+-- the same, of any group; push, pop and leave name what they load
+abbrev pub group_names_load : Group → Instr → Bool
+group_names_load (Calculates a) i = calculation_names_load a
+group_names_load (Moves m) i = movement_names_load m i
+group_names_load (Stacks s) i = true
+group_names_load (Controls c) i = control_names_load c
+
 -- whether a loaded number is the low bits of what the name of the instruction stands for
 abbrev pub names_load : Op → Instr → Bool
-names_load op.Add i = false
-names_load op.Or i = false
-names_load op.Adc i = false
-names_load op.Sbb i = false
-names_load op.And i = false
-names_load op.Sub i = false
-names_load op.Xor i = false
-names_load op.Cmp i = true
-names_load op.Test i = true
-names_load op.Mov i = is_low_register i.dst
-names_load op.Lea i = false
-names_load op.Movzx i = is_low_register i.dst
-names_load op.Movsx i = is_low_register i.dst
-names_load op.Not i = false
-names_load op.Neg i = false
-names_load op.Mul i = false
-names_load op.Imul1 i = false
-names_load op.Div i = false
-names_load op.Idiv i = false
-names_load op.Imul2 i = false
-names_load op.Imul3 i = false
-names_load op.Inc i = false
-names_load op.Dec i = false
-names_load op.Rol i = false
-names_load op.Ror i = false
-names_load op.Shl i = false
-names_load op.Shr i = false
-names_load op.Sar i = false
-names_load op.Push i = true
-names_load op.Pop i = true
-names_load op.Leave i = true
-names_load op.Widen i = false
-names_load op.Signs i = false
-names_load op.Xchg i = is_low_register i.src
-names_load op.Bswap i = false
-names_load op.Cmov i = false
-names_load op.Setcc i = false
-names_load op.Jcc i = false
-names_load op.Jmp i = true
-names_load op.Call i = false
-names_load op.Ret i = false
-names_load op.Nop i = false
-names_load op.Syscall i = false
-names_load op.Hlt i = false
-names_load op.Ud2 i = false
-names_load op.Int3 i = false
+names_load o i = group_names_load (group_of o) i
 
 -- a loaded number of a width, as the low bits of the name, where it is
 abbrev pub load_name : Instr → Width → Option PlainSum

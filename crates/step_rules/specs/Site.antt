@@ -10,12 +10,15 @@ use Rattle.mem_forest.specs.Alias.{can_alias}
 use Rattle.predicates.specs.Predicate.{Predicate}
 use Rattle.x86_instr.specs.declared.class.Class.{Class}
 use Rattle.x86_instr.specs.declared.class.Class.TheVariants as class
-use Rattle.x86_instr.specs.declared.instr.Op.{Op}
-use Rattle.x86_instr.specs.declared.instr.Op.TheVariants as op
 use Rattle.x86_instr.specs.declared.instr.Operand.{Operand}
 use Rattle.x86_instr.specs.declared.instr.Operand.TheVariants as operand
 use Rattle.x86_instr.specs.declared.instr.Instr.{Instr}
 use Rattle.x86_instr.specs.Classes.{class_of}
+use Rattle.x86_instr.specs.Groups.{Group, Calculates, Moves, Stacks, Controls, group_of}
+use Rattle.x86_instr.specs.Groups.{Arithmetic, Combining, Comparing, Inverting, Negating, Counting, Multiplying, Dividing, Scaling, ScalingBy, Shifting}
+use Rattle.x86_instr.specs.Groups.{Movement, Copying, ExtendingZeros, ExtendingSign, Addressing, Exchanging, Widening, SignFilling, Swapping, Choosing, Setting}
+use Rattle.x86_instr.specs.Groups.{StackMove, Pushing, Popping, Leaving}
+use Rattle.x86_instr.specs.Groups.{Control, Branching, Jumping, Calling, Returning, Passing, Asking, Stopping}
 use Rattle.step_rules.specs.View.{View}
 use Rattle.step_rules.specs.Names.{store_name}
 use Rattle.step_rules.specs.Drop.{dropped}
@@ -40,58 +43,58 @@ place_region i p (operand.Mem pl) = option_map (region_of (bytes_of i.width)) (s
 abbrev pub push_region : Instr → Predicate → Option Region
 push_region i p = option_map (region_of 8) (option_or (below_top p) (store_name i))
 
--- the region to which the instruction of an operation stores; None where it stores nothing, or to an unknown address
-abbrev pub store_region_by : Op → Instr → Predicate → Option Region
-store_region_by op.Add i p = place_region i p i.dst
-store_region_by op.Or i p = place_region i p i.dst
-store_region_by op.Adc i p = place_region i p i.dst
-store_region_by op.Sbb i p = place_region i p i.dst
-store_region_by op.And i p = place_region i p i.dst
-store_region_by op.Sub i p = place_region i p i.dst
-store_region_by op.Xor i p = place_region i p i.dst
-store_region_by op.Cmp i p = None
-store_region_by op.Test i p = None
-store_region_by op.Mov i p = place_region i p i.dst
-store_region_by op.Lea i p = None
-store_region_by op.Movzx i p = None
-store_region_by op.Movsx i p = None
-store_region_by op.Not i p = place_region i p i.dst
-store_region_by op.Neg i p = place_region i p i.dst
-store_region_by op.Mul i p = None
-store_region_by op.Imul1 i p = None
-store_region_by op.Div i p = None
-store_region_by op.Idiv i p = None
-store_region_by op.Imul2 i p = None
-store_region_by op.Imul3 i p = None
-store_region_by op.Inc i p = place_region i p i.dst
-store_region_by op.Dec i p = place_region i p i.dst
-store_region_by op.Rol i p = place_region i p i.dst
-store_region_by op.Ror i p = place_region i p i.dst
-store_region_by op.Shl i p = place_region i p i.dst
-store_region_by op.Shr i p = place_region i p i.dst
-store_region_by op.Sar i p = place_region i p i.dst
-store_region_by op.Push i p = push_region i p
-store_region_by op.Pop i p = None
-store_region_by op.Leave i p = None
-store_region_by op.Widen i p = None
-store_region_by op.Signs i p = None
-store_region_by op.Xchg i p = place_region i p i.dst
-store_region_by op.Bswap i p = None
-store_region_by op.Cmov i p = None
-store_region_by op.Setcc i p = place_region i p i.dst
-store_region_by op.Jcc i p = None
-store_region_by op.Jmp i p = None
-store_region_by op.Call i p = push_region i p
-store_region_by op.Ret i p = None
-store_region_by op.Nop i p = None
-store_region_by op.Syscall i p = None
-store_region_by op.Hlt i p = None
-store_region_by op.Ud2 i p = None
-store_region_by op.Int3 i p = None
+-- the region to which arithmetic, logic and shifts store
+abbrev pub calculation_region : Arithmetic → Instr → Predicate → Option Region
+calculation_region (Combining o) i p = place_region i p i.dst
+calculation_region (Comparing o) i p = None
+calculation_region Inverting i p = place_region i p i.dst
+calculation_region Negating i p = place_region i p i.dst
+calculation_region (Counting o) i p = place_region i p i.dst
+calculation_region Multiplying i p = None
+calculation_region Dividing i p = None
+calculation_region Scaling i p = None
+calculation_region ScalingBy i p = None
+calculation_region (Shifting o) i p = place_region i p i.dst
+
+-- the region to which moves of data store
+abbrev pub movement_region : Movement → Instr → Predicate → Option Region
+movement_region Copying i p = place_region i p i.dst
+movement_region ExtendingZeros i p = None
+movement_region ExtendingSign i p = None
+movement_region Addressing i p = None
+movement_region Exchanging i p = place_region i p i.dst
+movement_region Widening i p = None
+movement_region SignFilling i p = None
+movement_region Swapping i p = None
+movement_region Choosing i p = None
+movement_region Setting i p = place_region i p i.dst
+
+-- the region to which moves that change the stack pointer store
+abbrev pub stack_region : StackMove → Instr → Predicate → Option Region
+stack_region Pushing i p = push_region i p
+stack_region Popping i p = None
+stack_region Leaving i p = None
+
+-- the region to which control stores: a call stores the next address
+abbrev pub control_region : Control → Instr → Predicate → Option Region
+control_region Branching i p = None
+control_region Jumping i p = None
+control_region Calling i p = push_region i p
+control_region Returning i p = None
+control_region Passing i p = None
+control_region Asking i p = None
+control_region Stopping i p = None
+
+-- the region to which a group stores; None where it stores nothing, or to an unknown address
+abbrev pub store_region_in : Group → Instr → Predicate → Option Region
+store_region_in (Calculates a) i p = calculation_region a i p
+store_region_in (Moves m) i p = movement_region m i p
+store_region_in (Stacks s) i p = stack_region s i p
+store_region_in (Controls c) i p = control_region c i p
 
 -- the region of an instruction's store
 abbrev pub store_region : Instr → Predicate → Option Region
-store_region i p = store_region_by i.op i (dropped i p)
+store_region i p = store_region_in (group_of i.op) i (dropped i p)
 
 -- ---- the pair that is told apart
 

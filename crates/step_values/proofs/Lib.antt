@@ -1,7 +1,4 @@
-pub mod Ground
-pub mod Scene
-pub mod MeansLemmas
-pub mod ResultLemmas
-pub mod FlagLemmas
+pub mod TermLemmas
+pub mod NameLemmas
+pub mod MemoryLemmas
 pub mod BoundLemmas
-pub mod TableLemmas

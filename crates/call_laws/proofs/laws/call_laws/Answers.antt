@@ -1,4 +1,4 @@
-use Rattle.step_values.proofs.Ground.{Ground}
+use Rattle.value_laws.proofs.Ground.{Ground}
 use Rattle.call_laws.proofs.CallLemmas.{call_law, syscall_law}
 use Rattle.call_laws.proofs.TargetLemmas.{target_law}
 use Rattle.call_laws.proofs.laws.call_laws.Goals as goal

@@ -1,4 +1,4 @@
-use Rattle.step_values.proofs.Ground.{Ground}
+use Rattle.value_laws.proofs.Ground.{Ground}
 use Rattle.instruction_laws.proofs.LawLemmas.{step_law, fork_law}
 use Rattle.instruction_laws.proofs.laws.instruction_laws.Goals as goal
 

@@ -20,9 +20,9 @@ use Rattle.step_rules.specs.Names.{register_name}
 use Rattle.step_rules.specs.Results.{comparison, name_result, alu_fact}
 use Rattle.forest_meaning.specs.Holds.{Tells}
 use Rattle.predicate_meaning.specs.Sat.{FactHolds}
-use Rattle.step_values.proofs.Ground.{Ground}
-use Rattle.step_values.proofs.MeansLemmas.{tells_as, tells_or, means_as, means_number, means_zeros}
-use Rattle.step_values.proofs.Scene.{OperandNameFits}
+use Rattle.value_laws.proofs.Ground.{Ground}
+use Rattle.value_laws.proofs.MeansLemmas.{tells_as, tells_or, means_as, means_number, means_zeros}
+use Rattle.value_laws.proofs.Scene.{OperandNameFits}
 use Rattle.x86_machine.specs.State.{State, IsState, reg, with_reg}
 use Rattle.x86_machine.specs.Access.{NamesRegisters, write, merged}
 use Rattle.bits_core.specs.declared.operations.Alu.TheVariants as alu

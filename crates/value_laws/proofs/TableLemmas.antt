@@ -25,8 +25,8 @@ use Rattle.x86_machine.specs.Memory.{loaded}
 use Rattle.forest_meaning.specs.Holds.{Means}
 use Rattle.predicate_meaning.specs.Sat.{IsIn, BoundHolds}
 use Rattle.step_rules.specs.Tables.{Choice, choice_by, choice_among, choice_of, chosen, values_of, chosen_values, targets_of, chosen_targets}
-use Rattle.step_values.proofs.Ground.{Ground}
-use Rattle.step_values.proofs.MeansLemmas.{means_times}
+use Rattle.value_laws.proofs.Ground.{Ground}
+use Rattle.value_laws.proofs.MeansLemmas.{means_times}
 
 -- what holds of each of two holds of the first that is there
 one_or : {A : Type 0} (P : A → Type 0) (a b : Option A) → IfSome a P → IfSome b P → IfSome (option_or a b) P

@@ -21,8 +21,8 @@ use Rattle.x86_instr.specs.declared.instr.Operand.{Operand}
 use Rattle.step_rules.specs.Terms.{number, cut_term, sext_term}
 use Rattle.step_rules.specs.Results.{whole_term, alu_term, negative, negated_term, inverted_term, product_term, shifted_term, shift_term}
 use Rattle.forest_meaning.specs.Holds.{Tells}
-use Rattle.step_values.proofs.Ground.{Ground}
-use Rattle.step_values.proofs.MeansLemmas.{tells_as, tells_one, tells_both, means_number, means_plus, means_minus, means_times, means_pair, tells_cut, tells_signed}
+use Rattle.value_laws.proofs.Ground.{Ground}
+use Rattle.value_laws.proofs.MeansLemmas.{tells_as, tells_one, tells_both, means_number, means_plus, means_minus, means_times, means_pair, tells_cut, tells_signed}
 use Rattle.bits_core.specs.declared.operations.Alu.TheVariants as alu
 use Rattle.bits_core.specs.declared.operations.Shift.TheVariants as shift
 use Rattle.x86_instr.specs.declared.instr.Operand.TheVariants as operand

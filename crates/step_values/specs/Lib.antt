@@ -1,0 +1,4 @@
+pub mod Held
+pub mod Ordered
+pub mod Parts
+pub mod Views

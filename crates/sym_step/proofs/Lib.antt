@@ -1,0 +1,4 @@
+pub mod CallLemmas
+pub mod LeftLemmas
+pub mod SymbolLemmas
+pub mod CaseLemmas

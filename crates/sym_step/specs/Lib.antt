@@ -1,0 +1,5 @@
+pub mod Views
+pub mod Led
+pub mod Left
+pub mod Kept
+pub mod Restored
