@@ -133,55 +133,35 @@ impl Builder {
         match line {
             Line::Function(entry, below, above) => {
                 let functions = close_position(alloc, functions, position)?;
-                let position = Position::Function(new_function(alloc, entry, below, above));
-                Ok(Builder {
-                    functions,
-                    position,
-                })
+                let function = new_function(alloc, entry, below, above);
+                Ok(builder_of(functions, Position::Function(function)))
             }
             Line::Refused(entry) => {
                 let mut functions = close_position(alloc, functions, position)?;
                 functions.push(refused_function(alloc, entry))?;
-                Ok(Builder {
-                    functions,
-                    position: Position::Between,
-                })
+                Ok(builder_of(functions, Position::Between))
             }
             Line::End => {
                 let functions = close_position(alloc, functions, position)?;
-                Ok(Builder {
-                    functions,
-                    position: Position::Ended,
-                })
+                Ok(builder_of(functions, Position::Ended))
             }
             Line::Site(addr, kind) => {
-                let position = position.begin_site(alloc, addr, kind)?;
-                Ok(Builder {
-                    functions,
-                    position,
-                })
+                Ok(builder_of(functions, position.begin_site(alloc, addr, kind)?))
             }
-            Line::Vertex(_) => {
-                let position = position.begin_vertex(alloc)?;
-                Ok(Builder {
-                    functions,
-                    position,
-                })
-            }
-            Line::InSite(line) => {
-                let position = position.in_site_after(line)?;
-                Ok(Builder {
-                    functions,
-                    position,
-                })
-            }
+            Line::Vertex(_) => Ok(builder_of(functions, position.begin_vertex(alloc)?)),
+            Line::InSite(line) => Ok(builder_of(functions, position.in_site_after(line)?)),
             Line::InVertex(line) => {
-                let position = position.in_vertex_after(alloc, line)?;
-                Ok(Builder {
-                    functions,
-                    position,
-                })
+                Ok(builder_of(functions, position.in_vertex_after(alloc, line)?))
             }
         }
+    }
+}
+
+fn builder_of(functions: Items<Function>, position: Position) -> Builder
+    ensures { result ≡ record { functions = functions; position = position } }
+{
+    Builder {
+        functions,
+        position,
     }
 }

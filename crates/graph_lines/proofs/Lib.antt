@@ -11,3 +11,12 @@ pub mod TermPartLemmas
 pub mod TermLineLemmas
 pub mod LengthLemmas
 pub mod LineLemmas
+pub mod FormLemmas
+pub mod NumberForms
+pub mod PartForms
+pub mod SetForms
+pub mod LineForms
+pub mod TellLemmas
+pub mod JudgeLemmas
+pub mod KindJudged
+pub mod LineLawLemmas

@@ -13,7 +13,8 @@ use Rattle.graph_lines.specs.declared.line.VertexLine.TheVariants as in_vertex
 use Rattle.graph_lines.specs.Words.{are_printable}
 use Rattle.graph_lines.specs.Line.{is_entry_value, IsGiven, IsLine}
 use Rattle.graph_lines.specs.Text.{line_text}
-use Rattle.graph_lines.specs.Reading.{restates_entry_value, line_of_kind, line_at}
+use Rattle.graph_lines.specs.Steps.{restates_entry_value}
+use Rattle.graph_lines.specs.Reading.{line_of_kind, line_at}
 use Rattle.graph_lines.proofs.KindLemmas.{kind_of_text}
 use Rattle.graph_lines.proofs.PlainLemmas.{Again, function_again, function_printable, refused_again, refused_printable, site_again, site_printable, vertex_again, vertex_printable, edges_again, edges_printable, end_again}
 use Rattle.graph_lines.proofs.TermLineLemmas.{pair_again, pair_printable, fork_again, fork_printable, keep_again, keep_printable, registers_again, registers_printable, fact_again, fact_printable, bound_again, bound_printable, node_again, node_printable}

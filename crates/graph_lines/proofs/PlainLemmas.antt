@@ -15,7 +15,7 @@ use Rattle.graph_lines.specs.Line.{IsLine}
 use Rattle.graph_lines.specs.Text.{hex, kind_text, edge_text, line_text}
 use Rattle.graph_lines.specs.LineKind.{kind_of_line}
 use Rattle.graph_lines.specs.Syntax.{kind_at, function_line, refused_line, site_line, vertex_line, edge_at, edges_line}
-use Rattle.graph_lines.specs.Reading.{loose_vertex_line, loose_line}
+use Rattle.graph_lines.specs.Steps.{loose_vertex_line, loose_line}
 use Rattle.graph_lines.proofs.WordLemmas.{has_none, split_joined, fields_joined}
 use Rattle.graph_lines.proofs.EachLemmas.{each_reads, each_passes}
 use Rattle.graph_lines.proofs.ByteLemmas.{hex_free, decimal_free, hex_printable, decimal_printable, all_both, all_joined}

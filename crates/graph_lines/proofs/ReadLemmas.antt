@@ -13,7 +13,8 @@ use Rattle.graph_lines.specs.Words.{fields}
 use Rattle.graph_lines.specs.Line.{is_entry_value, IsEntry, IsGiven}
 use Rattle.term_text.specs.Bind.{◌>>=◌}
 use Rattle.graph_lines.specs.Syntax.{each_at, given_at, givens_at}
-use Rattle.graph_lines.specs.Reading.{and_then, or_bad_line, each_read, given_of, entry_of, loose_vertex_line}
+use Rattle.graph_lines.specs.Steps.{each_read, given_of, entry_of, loose_vertex_line}
+use Rattle.graph_lines.specs.Reading.{and_then, or_bad_line}
 
 pub and_then_twice : {A B C : Type 0} (r : Result A TextCause) (f : A → Result B TextCause) (g : B → Result C TextCause) → and_then (and_then r f) g ≡ and_then r (λ x. and_then (f x) g)
 and_then_twice (Ok x) f g = refl

@@ -27,7 +27,8 @@ use Rattle.graph_lines.specs.Words.{joined, is_term_word, is_printable, are_prin
 use Rattle.graph_lines.specs.Line.{IsGiven, IsNode, HasNumber, IsLine}
 use Rattle.graph_lines.specs.Text.{region_text, given_text, fact_text, values_text, bound_text, content_text, node_text, line_text}
 use Rattle.graph_lines.specs.Syntax.{each_at, regions_at, given_at, givens_at, fact_at, list_at, range_at, values_or, values_at, bound_at, content_at, node_at}
-use Rattle.graph_lines.specs.Reading.{and_then, or_bad_line, each_read, pair_of, region_of, given_of, fact_of, bound_of, value_of, node_of, loose_site_line, loose_vertex_line, loose_line}
+use Rattle.graph_lines.specs.Steps.{each_read, pair_of, region_of, given_of, fact_of, bound_of, value_of, node_of, loose_site_line, loose_vertex_line, loose_line}
+use Rattle.graph_lines.specs.Reading.{and_then, or_bad_line}
 use Rattle.graph_lines.proofs.WordLemmas.{has_none, split_joined, fields_joined}
 use Rattle.graph_lines.proofs.EachLemmas.{each_reads, each_passes}
 use Rattle.graph_lines.proofs.ByteLemmas.{clean_printable, decimal_free, decimal_printable, all_both, all_joined}

@@ -25,7 +25,7 @@ use Rattle.graph_lines.specs.Words.{ends_term, is_term_word, are_printable}
 use Rattle.graph_lines.specs.Line.{IsGiven}
 use Rattle.graph_lines.specs.Text.{region_text, value_text, given_text}
 use Rattle.graph_lines.specs.Syntax.{strip, each_at, size_at, sized_at, region_at, register_named, all_registers, given_at, width_of}
-use Rattle.graph_lines.specs.Reading.{each_read, region_of, given_of}
+use Rattle.graph_lines.specs.Steps.{each_read, region_of, given_of}
 use Rattle.graph_lines.proofs.WordLemmas.{has_none, split_joined}
 use Rattle.graph_lines.proofs.ByteLemmas.{all_clean, clean_free, clean_printable, decimal_free, decimal_printable, all_both}
 
@@ -170,14 +170,14 @@ all_registers_named : all_below (λ r. is_it r (register_named all_registers (re
 unfolding all_below
 all_registers_named = refl
 
-name_reads : (r : ℕ) → r < 16 → register_named all_registers (register_name r) ≡ Some r
+pub name_reads : (r : ℕ) → r < 16 → register_named all_registers (register_name r) ≡ Some r
 name_reads r lt = it_is r _ (below_all (λ r. is_it r (register_named all_registers (register_name r))) 16 all_registers_named r lt)
 
 all_names_clean : all_below (λ r. list_all is_term_byte (register_name r)) 16 ≡ true
 unfolding all_below
 all_names_clean = refl
 
-name_clean : (r : ℕ) → r < 16 → list_all is_term_byte (register_name r) ≡ true
+pub name_clean : (r : ℕ) → r < 16 → list_all is_term_byte (register_name r) ≡ true
 name_clean r lt = below_all (λ r. list_all is_term_byte (register_name r)) 16 all_names_clean r lt
 
 -- the parts of an entry

@@ -2,6 +2,10 @@ pub mod Words
 pub mod Line
 pub mod Text
 pub mod LineKind
+pub mod Form
+pub mod LineForm
 pub mod Syntax
+pub mod Then
+pub mod Steps
 pub mod Reading
 pub mod LineLimits

@@ -1,5 +1,5 @@
--- The form of a line with its looser parts: numbers that are read already, and the bytes at the
--- places of terms.
+-- The steps of the reader that part a line, read its numbers and give the bytes at the places of terms. Which
+-- bytes they take is what the forms of `Form` say: nothing else is to be read here.
 use Rattle.std.specs.Prelude.{ℕ, ◌^◌, ◌==◌, Bool, true, false, ◌&&◌, nat_lt, if◌then◌else◌, Option, Some, None, List, [], ◌∷◌, codes, drop, take, length}
 use Rattle.std.specs.Str.{bytes_eq}
 use Rattle.std.specs.List.{list_all}

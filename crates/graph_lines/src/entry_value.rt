@@ -6,7 +6,7 @@ ghost use Rattle.sym_terms.specs.Plain.{more, none, symbol, single_atom};
 ghost use Rattle.sym_terms.specs.View.{pieces};
 ghost use Rattle.sym_terms.specs.Order.{sum_cmp, pieces_cmp};
 ghost use Rattle.graph_lines.specs.Line.{is_entry_value as is_entry_value_of};
-ghost use Rattle.graph_lines.specs.Reading.{restates_entry_value as restates_value_of, restates_in_vertex};
+ghost use Rattle.graph_lines.specs.Steps.{restates_entry_value as restates_value_of, restates_in_vertex};
 
 use crate::line::{Line, VertexLine};
 use sym_terms::{Atom, Sum, Sym, Term};

@@ -5,7 +5,8 @@ ghost use Rattle.std.specs.declared.result.Result.TheVariants.{Ok as is_ok};
 ghost use Rattle.term_text.specs.Reading.{Gives};
 ghost use Rattle.graph_lines.specs.Line.{IsLine};
 ghost use Rattle.graph_lines.specs.Text.{line_text};
-ghost use Rattle.graph_lines.specs.Reading.{or_bad_line as or_bad_line_as, restates_entry_value as restates_value_of, loose_site_line, loose_vertex_line, loose_line as loose_at, line_of_kind, line_at};
+ghost use Rattle.graph_lines.specs.Steps.{restates_entry_value as restates_value_of, loose_site_line, loose_vertex_line, loose_line as loose_at};
+ghost use Rattle.graph_lines.specs.Reading.{or_bad_line as or_bad_line_as, line_of_kind, line_at};
 ghost use Rattle.graph_lines.specs.LineKind.{kind_of_bytes};
 
 use crate::entry_value::restates_entry_value;
@@ -64,7 +65,7 @@ pub fn read_line_of_kind(
     }
 }
 
-#[tactic(auto, unfolding(crate::specs::Reading::loose_line))]
+#[tactic(auto, unfolding(crate::specs::Steps::loose_line))]
 fn loose_line(
     alloc: Global,
     kind: LineKind,
@@ -101,7 +102,7 @@ fn loose_site_line(
     }
 }
 
-#[tactic(auto, unfolding(crate::specs::Reading::loose_vertex_line))]
+#[tactic(auto, unfolding(crate::specs::Steps::loose_vertex_line))]
 fn loose_vertex_line(
     alloc: Global,
     kind: VertexLineKind,

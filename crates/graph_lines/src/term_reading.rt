@@ -16,7 +16,8 @@ ghost use Rattle.graph_lines.specs.declared.line_kind.VertexLineKind.TheVariants
 ghost use Rattle.graph_lines.specs.Line.{IsLine, IsEntry, IsNode};
 ghost use Rattle.graph_lines.specs.Words.{fields};
 ghost use Rattle.graph_lines.specs.Syntax.{regions_at as regions_of, node_at as node_at_of};
-ghost use Rattle.graph_lines.specs.Reading.{and_then, or_bad_line, region_of, pair_of, entry_of, each_read, restates_entry_value, value_of, node_of, loose_site_line, loose_vertex_line};
+ghost use Rattle.graph_lines.specs.Steps.{region_of, pair_of, entry_of, each_read, restates_entry_value, value_of, node_of, loose_site_line, loose_vertex_line};
+ghost use Rattle.graph_lines.specs.Reading.{and_then, or_bad_line};
 
 use crate::fields::first_field;
 use crate::line::{Line, SiteLine, VertexLine};
@@ -59,7 +60,7 @@ fn read_regions(
 }
 
 /// `REGION REGION`, taken as separate.
-#[tactic(auto, unfolding(crate::specs::Reading::loose_site_line))]
+#[tactic(auto, unfolding(crate::specs::Steps::loose_site_line))]
 pub(crate) fn pair_line(alloc: Global, rest: &[u8], buffer: &mut Vec<u8>) -> Result<Line, TextCause>
     ensures exact { Gives (λ l. l) result (loose_site_line site_kind.Pair rest.now) }
     ensures line { IfOk result IsLine }
@@ -69,7 +70,7 @@ pub(crate) fn pair_line(alloc: Global, rest: &[u8], buffer: &mut Vec<u8>) -> Res
 }
 
 /// `REGION REGION`, of which three cases are told apart.
-#[tactic(auto, unfolding(crate::specs::Reading::loose_site_line))]
+#[tactic(auto, unfolding(crate::specs::Steps::loose_site_line))]
 pub(crate) fn fork_line(alloc: Global, rest: &[u8], buffer: &mut Vec<u8>) -> Result<Line, TextCause>
     ensures exact { Gives (λ l. l) result (loose_site_line site_kind.Fork rest.now) }
     ensures line { IfOk result IsLine }
@@ -79,7 +80,7 @@ pub(crate) fn fork_line(alloc: Global, rest: &[u8], buffer: &mut Vec<u8>) -> Res
 }
 
 /// `REGION`, whose bytes a callee leaves as they were.
-#[tactic(auto, unfolding(crate::specs::Reading::loose_site_line))]
+#[tactic(auto, unfolding(crate::specs::Steps::loose_site_line))]
 pub(crate) fn keep_line(alloc: Global, rest: &[u8], buffer: &mut Vec<u8>) -> Result<Line, TextCause>
     ensures exact { Gives (λ l. l) result (loose_site_line site_kind.Keep rest.now) }
     ensures line { IfOk result IsLine }
@@ -92,7 +93,7 @@ pub(crate) fn keep_line(alloc: Global, rest: &[u8], buffer: &mut Vec<u8>) -> Res
 }
 
 /// `W TERM TERM`.
-#[tactic(auto, unfolding(crate::specs::Reading::loose_vertex_line))]
+#[tactic(auto, unfolding(crate::specs::Steps::loose_vertex_line))]
 pub(crate) fn fact_line(alloc: Global, rest: &[u8], buffer: &mut Vec<u8>) -> Result<Line, TextCause>
     ensures exact { Gives (λ l. l) result (loose_vertex_line vertex_kind.Flags rest.now) }
     ensures line { IfOk result IsLine }
@@ -106,7 +107,7 @@ pub(crate) fn fact_line(alloc: Global, rest: &[u8], buffer: &mut Vec<u8>) -> Res
 }
 
 /// `TERM LO..HI` or `TERM {N,N}`.
-#[tactic(auto, unfolding(crate::specs::Reading::loose_vertex_line))]
+#[tactic(auto, unfolding(crate::specs::Steps::loose_vertex_line))]
 pub(crate) fn bound_line(
     alloc: Global,
     rest: &[u8],
@@ -228,7 +229,7 @@ fn read_content(
 }
 
 /// `[NAME|NAME;BYTES]=TERM` after a dot for each level below the top.
-#[tactic(auto, unfolding(crate::specs::Reading::loose_vertex_line))]
+#[tactic(auto, unfolding(crate::specs::Steps::loose_vertex_line))]
 pub(crate) fn node_line(
     alloc: Global,
     level: u64,

@@ -24,5 +24,6 @@ vertices_in f = sum_by (λ s. length s.vertices) (sites_of f)
 abbrev pub code_bytes : Image → ℕ
 code_bytes image = sum_by code_size image.segs
 
+-- how many of them some site's instruction covers
 unfoldable pub covered_bytes : LookUp → Image → List Function → ℕ
 covered_bytes look_up image functions = sum_by (covered_in look_up functions) image.segs

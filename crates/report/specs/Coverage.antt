@@ -40,5 +40,6 @@ covered_from look_up functions address (suc n) =
 abbrev pub code_size : Segment → ℕ
 code_size s = if s.exec then length s.bytes else 0
 
+-- how many of a segment's code bytes some site's instruction covers
 unfoldable pub covered_in : LookUp → List Function → Segment → ℕ
 covered_in look_up functions s = covered_from look_up functions s.lo (code_size s)

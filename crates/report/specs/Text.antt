@@ -31,6 +31,7 @@ abbrev pub pair_line : List ℕ → ℕ → Region × Region → List ℕ
 pair_line word addr pair =
     at_line word addr (codes " " ++ region_text pair.0 ++ codes " " ++ region_text pair.1)
 
+-- the line of a region that a callee leaves as it was
 abbrev pub keep_line : ℕ → Region → List ℕ
 keep_line addr region = at_line (codes "keep ") addr (codes " " ++ region_text region)
 
@@ -44,6 +45,7 @@ abbrev pub entered_by : Op → List ℕ
 entered_by op.Syscall = codes " syscall"
 entered_by _ = codes " call"
 
+-- the word for what an outside site enters, by the instruction there
 abbrev pub entered : Option Instr → List ℕ
 entered (Some i) = entered_by i.op
 entered None = codes " call"
@@ -70,6 +72,7 @@ function_line f =
     ++ decimal f.above ++ codes " sites " ++ decimal (capped (sites_in f))
     ++ number_line (codes " vertices ") (capped (vertices_in f))
 
+-- the line of a function that is refused
 abbrev pub refused_line : ℕ → List ℕ
 refused_line entry = codes "refused " ++ hex entry ++ codes " notcode\n"
 

@@ -1,25 +1,15 @@
--- What is read of words, and what the parser builds, are terms.
-use Rattle.std.proofs.Common.{◌≡◌, ℕ, ◌+◌, ◌*◌, ◌^◌, ◌<◌, Bool, true, false, ◌&&◌, eqb, ltb, leb, if◌then◌else◌, List, [], ◌∷◌, Option, Some, None, refl, arith, lit<}
+-- What is read of words: numbers have 64 bits, and symbols are those of a program.
+use Rattle.std.proofs.Common.{◌≡◌, ℕ, ◌+◌, ◌*◌, ◌^◌, ◌<◌, Bool, true, false, ◌&&◌, eqb, ltb, if◌then◌else◌, List, [], ◌∷◌, Option, Some, None, refl, arith, lit<}
 use Rattle.std.specs.Prelude.{IfSome}
 use Rattle.std.specs.Str.{bytes_eq}
 use Rattle.std.specs.Char.{digit_value}
 use Rattle.std.specs.List.{AllByRecursion}
-use Rattle.std.proofs.lemmas.Bool.{leb-true, ltb-true}
-use Rattle.sym_terms.specs.declared.kinds.Fit.{Fit}
-use Rattle.sym_terms.specs.declared.kinds.Pair.{Pair}
-use Rattle.sym_terms.specs.declared.kinds.Sym.{Sym}
-use Rattle.sym_terms.specs.Plain.{PlainSum, sum, none, symbol, single_atom, IsSymbol}
-use Rattle.sym_terms.specs.Nodes.{nodes}
-use Rattle.sym_terms.specs.Normal.{plus, times, fit, pair, within_node_limit, IsNormal, IsTerm}
-use Rattle.sym_terms.proofs.SumLemmas.{plus_times_normal}
-use Rattle.sym_terms.proofs.AtomLemmas.{alone_normal, zero_normal, fit_normal, pair_normal}
+use Rattle.std.proofs.lemmas.Bool.{ltb-true}
+use Rattle.sym_terms.specs.Plain.{IsSymbol}
 use Rattle.term_text.specs.declared.names.Keyword.{Keyword}
 use Rattle.term_text.specs.declared.names.Keyword.TheVariants as word
 use Rattle.term_text.specs.Numbers.{radix, digits_at, numeral_at, number_at}
 use Rattle.term_text.specs.Names.{IsKnown, keywords, name_of, named, keyword_at, as_symbol, as_named, symbol_at}
-use Rattle.term_text.specs.Parser.{zero_term, or_zero, signed, multiple, total, fitted_of, paired_of}
-
--- ---- numbers have 64 bits, and symbols are those of a program
 
 -- what digits spell
 digits_below : (hex : Bool) (n : ℕ) (bytes : List ℕ) → n < 2 ^ 64 → IfSome (digits_at hex n bytes) (λ m. m < 2 ^ 64)
@@ -37,7 +27,7 @@ digits_below hex n (byte ∷ bytes) lt = by_digit (ltb (digit_value byte) (radix
     by_digit false b e rest = tt
 
 -- what a numeral spells
-numeral_below : (hex : Bool) (bytes : List ℕ) → IfSome (numeral_at hex bytes) (λ m. m < 2 ^ 64)
+pub numeral_below : (hex : Bool) (bytes : List ℕ) → IfSome (numeral_at hex bytes) (λ m. m < 2 ^ 64)
 numeral_below hex [] = tt
 numeral_below hex (byte ∷ bytes) = digits_below hex 0 (byte ∷ bytes) (omega arith)
 
@@ -56,7 +46,7 @@ pub all_known : AllByRecursion IsKnown keywords
 all_known = (lit< tt, (lit< tt, (lit< tt, (lit< tt, (lit< tt, (lit< tt, (lit< tt, (lit< tt, (lit< tt, (lit< tt, (lit< tt, (lit< tt, (lit< tt, (lit< tt, (lit< tt, (lit< tt, (tt, (tt, (tt, (tt, (tt, (tt, (tt, (tt, (tt, (tt, (tt, (tt, (tt, (tt, tt))))))))))))))))))))))))))))))
 
 -- so is one that is found
-named_known : (ks : List Keyword) (w : List ℕ) → AllByRecursion IsKnown ks → IfSome (named ks w) IsKnown
+pub named_known : (ks : List Keyword) (w : List ℕ) → AllByRecursion IsKnown ks → IfSome (named ks w) IsKnown
 named_known [] w all = tt
 named_known (k ∷ ks) w all = by_name (bytes_eq (name_of k) w) (named_known ks w all.1)
   where
@@ -83,62 +73,3 @@ symbol_known (b ∷ w) = by_v (eqb b 118)
     by_v : (v : Bool) → IfSome (if v then as_named (numeral_at true w) else as_symbol (named keywords (b ∷ w))) IsSymbol
     by_v true = as_address (numeral_at true w) (numeral_below true w)
     by_v false = as_known (named keywords (b ∷ w)) (named_known keywords (b ∷ w) all_known)
-
--- ---- what is built
-
--- 0 is a term
-pub zero_is : IsTerm zero_term
-zero_is = record { normal = zero_normal; small = omega arith }
-
--- what is within the limit, or 0
-or_zero_is : (a : PlainSum) → IsNormal a → IsTerm (or_zero (within_node_limit a))
-unfolding within_node_limit
-or_zero_is a n = by_size (leb (nodes a) 32) refl
-  where
-    by_size : (b : Bool) → leb (nodes a) 32 ≡ b → IsTerm (or_zero (if b then Some a else None))
-    by_size true e = record { normal = n; small = leb-true (nodes a) 32 e }
-    by_size false e = zero_is
-
--- a multiple
-multiple_is_term : (k : ℕ) (t : PlainSum) → IsTerm t → IsTerm (multiple k t)
-multiple_is_term k t is = by_one (eqb k 1)
-  where
-    by_one : (b : Bool) → IsTerm (if b then t else or_zero (within_node_limit (times k t)))
-    by_one true = is
-    by_one false = or_zero_is (times k t) (plus_times_normal zero_term k t zero_normal is.normal)
-
--- a sum
-pub total_is_term : (count : ℕ) (s : PlainSum) (k : ℕ) (t : PlainSum) → IsTerm s → IsTerm t → IsTerm (total count s k t)
-unfolding total
-total_is_term count s k t s_is t_is = by_count (ltb 32 count)
-  where
-    by_count : (b : Bool) → IsTerm (if b then zero_term else or_zero (within_node_limit (plus s (multiple k t))))
-    by_count true = zero_is
-    by_count false = or_zero_is (plus s (multiple k t)) (plus_times_normal s 1 (multiple k t) s_is.normal (multiple_is_term k t t_is).normal)
-
--- a fit
-pub fitted_is_term : (count : ℕ) (f : Fit) (t : PlainSum) → IsTerm t → IsTerm (fitted_of count f t)
-unfolding fitted_of
-fitted_is_term count f t is = by_count (ltb 32 count)
-  where
-    by_count : (b : Bool) → IsTerm (if b then zero_term else or_zero (within_node_limit (fit f t)))
-    by_count true = zero_is
-    by_count false = or_zero_is (fit f t) (fit_normal f t is.normal)
-
--- a pair
-pub paired_is_term : (count : ℕ) (p : Pair) (a b : PlainSum) → IsTerm a → IsTerm b → IsTerm (paired_of count p a b)
-unfolding paired_of
-paired_is_term count p a b a_is b_is = by_count (ltb 32 count)
-  where
-    by_count : (c : Bool) → IsTerm (if c then zero_term else or_zero (within_node_limit (pair p a b)))
-    by_count true = zero_is
-    by_count false = or_zero_is (pair p a b) (pair_normal p a b a_is.normal b_is.normal)
-
--- a constant
-pub constant_is_term : (negative : Bool) (n : ℕ) → n < 2 ^ 64 → IsTerm (sum (signed negative n) none)
-constant_is_term true n lt = record { normal = (omega arith, tt); small = omega arith }
-constant_is_term false n lt = record { normal = (lt, tt); small = omega arith }
-
--- a symbol alone
-pub symbol_is_term : (s : Sym) → IsSymbol s → IsTerm (single_atom (symbol s))
-symbol_is_term s is = record { normal = alone_normal (symbol s) is; small = omega arith }

@@ -69,7 +69,7 @@ symbol_word FsBase is = (refl, (refl, tt))
 symbol_word (Named address) is = (refl, hex_word address is)
 
 -- what begins with a v is no number
-no_number : (cs : List ℕ) → number_at (118 ∷ cs) ≡ None
+pub no_number : (cs : List ℕ) → number_at (118 ∷ cs) ≡ None
 no_number [] = refl
 no_number (c ∷ cs) = refl
 

@@ -201,7 +201,7 @@ abbrev pub AreWord : List ℕ → Type 0
 AreWord = AllByRecursion (λ b. is_word_byte b ≡ true)
 
 -- a hexadecimal digit
-digit_word : (c : ℕ) → digit_value c < 16 → is_word_byte c ≡ true
+pub digit_word : (c : ℕ) → digit_value c < 16 → is_word_byte c ≡ true
 digit_word c lt =
     elim (cases_lt c 123) [
       | inl low ↦ by_test (is_word_byte c) (agree_below_at (λ c. ltb (digit_value c) 16 && not (is_word_byte c)) (λ c. false) 123 c refl low)

@@ -1,15 +1,14 @@
 -- A piece or a constant that is added at the end stands at the end.
-use Rattle.std.proofs.Common.{◌≡◌, ℕ, zero, suc, ◌+◌, ◌-◌, ◌*◌, ◌%◌, ◌^◌, ◌<◌, ◌≤◌, Bool, true, false, eqb, ltb, leb, if◌then◌else◌, Some, refl, sym, ap, ap₂, ◌∙◌, arith}
+use Rattle.std.proofs.Common.{◌≡◌, ℕ, zero, suc, ◌+◌, ◌-◌, ◌*◌, ◌%◌, ◌^◌, ◌<◌, ◌≤◌, Bool, true, false, leb, if◌then◌else◌, Some, refl, ap, ap₂, ◌∙◌, arith}
 use Rattle.std.specs.declared.cmp.Ordering.{Ordering}
 use Rattle.std.specs.declared.cmp.Ordering.TheVariants.{Less, Equal, Greater}
-use Rattle.std.proofs.lemmas.Bool.{le-leb, le-ltb, ltb-true, eqb-true}
+use Rattle.std.proofs.lemmas.Bool.{le-leb, ltb-true}
 use Rattle.sym_terms.specs.Plain.{PlainSum, sum, Summands, none, more, PlainAtom, single_atom}
 use Rattle.sym_terms.specs.Order.{atom_cmp}
 use Rattle.sym_terms.specs.Codes.{atom_total}
-use Rattle.sym_terms.specs.Nodes.{nodes, nodes_of_pieces, nodes_of_atom}
+use Rattle.sym_terms.specs.Nodes.{nodes}
 use Rattle.sym_terms.specs.Normal.{joined, plus_times_pieces, plus_times, plus, times, within_node_limit, AreNormal, IsBefore}
 use Rattle.term_text.specs.Text.{is_negative, magnitude}
-use Rattle.term_text.specs.Parser.{or_zero, signed, multiple, total}
 
 -- ---- pieces in a row
 
@@ -27,11 +26,6 @@ append-none (more a k xs) = ap (more a k) (append-none xs)
 pub append_assoc_pieces : (xs ys zs : Summands) → append (append xs ys) zs ≡ append xs (append ys zs)
 append_assoc_pieces none ys zs = refl
 append_assoc_pieces (more a k xs) ys zs = ap (more a k) (append_assoc_pieces xs ys zs)
-
--- their nodes add up
-pub nodes-append : (xs ys : Summands) → nodes_of_pieces (append xs ys) ≡ nodes_of_pieces xs + nodes_of_pieces ys
-nodes-append none ys = omega arith
-nodes-append (more a k xs) ys = omega (arith, nodes-append xs ys)
 
 -- each atom comes before this one
 abbrev pub AllBefore : Summands → PlainAtom → Type 0
@@ -99,7 +93,7 @@ plus_end (more b l ys) a k pos lt h =
     ]) h.0 ∙ ap (more b l) (plus_end ys a k pos lt h.1)
 
 -- an atom times a number
-times_alone : (a : PlainAtom) (k : ℕ) → 0 < k → k < 2 ^ 64 → times k (single_atom a) ≡ sum 0 (more a k none)
+pub times_alone : (a : PlainAtom) (k : ℕ) → 0 < k → k < 2 ^ 64 → times k (single_atom a) ≡ sum 0 (more a k none)
 unfolding plus_times
 times_alone a k pos lt = ap₂ sum (let e : (0 + k * 0) % 2 ^ 64 ≡ 0 = omega arith in e) (joined_is a k (k * 1 % 2 ^ 64) pos (omega arith))
 
@@ -108,41 +102,13 @@ pub within_is : (a : PlainSum) → nodes a ≤ 32 → within_node_limit a ≡ So
 unfolding within_node_limit
 within_is a le = let e : leb (nodes a) 32 ≡ true = le-leb _ _ le in rw e refl
 
--- so is its multiple in the parser
-multiple_is : (a : PlainAtom) (k : ℕ) → 0 < k → k < 2 ^ 64 → nodes_of_atom a < 32
-    → multiple k (single_atom a) ≡ sum 0 (more a k none)
-multiple_is a k pos lt small = by_one (eqb k 1) refl
-  where
-    by_one : (b : Bool) → eqb k 1 ≡ b
-        → (if b then single_atom a else or_zero (within_node_limit (times k (single_atom a)))) ≡ sum 0 (more a k none)
-    by_one true e = ap (λ (n : ℕ). sum 0 (more a n none)) (sym (eqb-true k 1 e))
-    by_one false e = rw (times_alone a k pos lt, within_is (sum 0 (more a k none)) (omega arith)) refl
-
 -- the sum of pieces with one after them
-plus_is : (ys : Summands) (a : PlainAtom) (k : ℕ) → 0 < k → k < 2 ^ 64 → AllBefore ys a
+pub plus_is : (ys : Summands) (a : PlainAtom) (k : ℕ) → 0 < k → k < 2 ^ 64 → AllBefore ys a
     → plus (sum 0 ys) (sum 0 (more a k none)) ≡ sum 0 (append ys (more a k none))
 unfolding plus_times
 plus_is ys a k pos lt h = ap (sum 0) (plus_end ys a k pos lt h)
 
--- an atom that comes after all others
-pub total_atom : (n : ℕ) (ys : Summands) (k : ℕ) (a : PlainAtom) → n ≤ 32 → 0 < k → k < 2 ^ 64
-    → nodes_of_pieces ys + nodes_of_atom a < 32 → AllBefore ys a
-    → total n (sum 0 ys) k (single_atom a) ≡ sum 0 (append ys (more a k none))
-unfolding total
-total_atom n ys k a le pos lt small all =
-    let few : ltb 32 n ≡ false = le-ltb _ _ le in
-    let whole : or_zero (within_node_limit (plus (sum 0 ys) (sum 0 (more a k none)))) ≡ sum 0 (append ys (more a k none)) = rw (plus_is ys a k pos lt all, within_is (sum 0 (append ys (more a k none))) (omega (arith, nodes-append ys (more a k none)))) refl in
-    rw few (ap (λ (s : PlainSum). or_zero (within_node_limit (plus (sum 0 ys) s))) (multiple_is a k pos lt (omega arith)) ∙ whole)
-
--- ---- a constant is added, and signs
-
--- the magnitude after the sign is the number
-pub signed_magnitude : (k : ℕ) → k < 2 ^ 64 → signed (is_negative k) (magnitude k) ≡ k
-signed_magnitude k lt = by_sign (is_negative k) refl
-  where
-    by_sign : (b : Bool) → is_negative k ≡ b → signed b (if b then 2 ^ 64 - k else k) ≡ k
-    by_sign true e = omega (arith, ltb-true _ _ e)
-    by_sign false e = refl
+-- ---- magnitudes, and a constant is added
 
 -- a magnitude has 64 bits
 pub magnitude_below : (k : ℕ) → k < 2 ^ 64 → magnitude k < 2 ^ 64
@@ -158,15 +124,6 @@ plus_none none = refl
 plus_none (more a k xs) = refl
 
 -- a constant is added
-plus_constant : (xs : Summands) (c : ℕ) → c < 2 ^ 64 → plus (sum 0 xs) (sum c none) ≡ sum c xs
+pub plus_constant : (xs : Summands) (c : ℕ) → c < 2 ^ 64 → plus (sum 0 xs) (sum c none) ≡ sum c xs
 unfolding plus_times
 plus_constant xs c lt = ap₂ sum (let e : (0 + 1 * c) % 2 ^ 64 ≡ c = omega arith in e) (plus_none xs)
-
--- the constant of a term
-pub total_constant : (n : ℕ) (xs : Summands) (c : ℕ) → n ≤ 32 → c < 2 ^ 64 → nodes_of_pieces xs < 32
-    → total n (sum 0 xs) 1 (sum (signed (is_negative c) (magnitude c)) none) ≡ sum c xs
-unfolding total
-total_constant n xs c le lt small =
-    let few : ltb 32 n ≡ false = le-ltb _ _ le in
-    rw few (ap (λ (v : ℕ). or_zero (within_node_limit (plus (sum 0 xs) (sum v none)))) (signed_magnitude c lt)
-    ∙ ap (λ (s : PlainSum). or_zero (within_node_limit s)) (plus_constant xs c lt) ∙ ap or_zero (within_is (sum c xs) (omega arith)))

@@ -4,5 +4,6 @@ pub mod Causes
 pub mod Numbers
 pub mod Names
 pub mod Text
+pub mod Tree
 pub mod Parser
 pub mod Reading

@@ -1,9 +1,6 @@
--- The loose grammar of a term, as a parser over words and the separators after them. A term is an
--- optional sign, a piece, then any number of sign and piece. A piece is a number, an atom, or a
--- number, `*` and an atom. An atom is a symbol, a fit's name and a term in brackets, or a pair's
--- name and two terms in brackets with a comma. Its loose nodes are 1 for each term and 1 for each
--- piece that has an atom. A word is letters and digits; a separator is any other byte, and takes
--- the word before it.
+-- The steps of the reader: it goes over the bytes from separator to separator, and each takes the word
+-- before it. A word is letters and digits; a separator is any other byte. What it accepts, counts and
+-- gives is what the trees of `Tree` say, by `TermAtLaw` of `Reading`: nothing else is to be read here.
 use Rattle.std.specs.Prelude.{ℕ, ◌+◌, ◌-◌, ◌%◌, ◌^◌, Bool, true, false, ◌&&◌, ◌||◌, ◌==◌, nat_le, nat_lt, if◌then◌else◌, List, [], ◌∷◌, ◌++◌, length, Option, Some, None}
 use Rattle.sym_terms.specs.declared.kinds.Sym.{Sym}
 use Rattle.sym_terms.specs.declared.kinds.Fit.{Fit}

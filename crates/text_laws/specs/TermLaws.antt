@@ -8,7 +8,7 @@ use Rattle.sym_terms.specs.Normal.{IsTerm}
 use Rattle.term_text.specs.Numbers.{number_text, numeral_at, number_at}
 use Rattle.term_text.specs.Names.{is_term_byte}
 use Rattle.term_text.specs.Text.{sum_text}
-use Rattle.term_text.specs.Reading.{term_at}
+use Rattle.term_text.specs.Reading.{term_at, TermAtLaw, OneTreeLaw}
 
 -- each spelling of a number that is written is read as the number
 pub record NumberLaws : Type 0 where
@@ -16,9 +16,12 @@ pub record NumberLaws : Type 0 where
   pub decimals : (n : ℕ) → n < 2 ^ 64 → numeral_at false (decimal n) ≡ Some n
   pub numbers : (n : ℕ) → n < 2 ^ 64 → number_at (number_text n) ≡ Some n
 
--- the text of a term is read as the term; what is read is a term with that text; terms with one
+-- `term_at` is the one reading of the bytes, by the tree that they spell, of which there is one at most;
+-- so the text of a term is read as the term, and what is read is a term with that text; terms with one
 -- text are one
 pub record ReadingLaws : Type 0 where
+  pub reading : TermAtLaw
+  pub trees : OneTreeLaw
   pub read_again : (t : PlainSum) → IsTerm t → term_at (sum_text t) ≡ Ok t
   pub text_of_read : (bytes : List ℕ) (t : PlainSum) → term_at bytes ≡ Ok t
       → IsTerm t × (bytes ≡ sum_text t)

@@ -1,6 +1,6 @@
-use graph_text::{TextCause, read_graph};
+use crate::refusal::fault;
+use graph_text::TextCause;
 use std::alloc::{AllocError, Global};
-use std::test::Fail;
 
 /// A text that begins and goes on like this, with a term of 33 nodes between.
 fn with_large_term(alloc: Global, before: &str, after: &str) -> Result<Vec<u8>, AllocError> {
@@ -14,8 +14,15 @@ fn with_large_term(alloc: Global, before: &str, after: &str) -> Result<Vec<u8>, 
     Ok(text)
 }
 
+fn fault_of_large_term(alloc: Global, before: &str, after: &str) -> Option<(u64, TextCause)> {
+    match with_large_term(alloc, before, after) {
+        Ok(text) => fault(alloc, text.as_slice()),
+        Err(_) => None,
+    }
+}
+
 #[test]
-fn a_term_of_33_nodes_is_over_the_limit_in_each_line(rt: HostRuntime) -> Result<(), Fail> {
+fn a_term_of_33_nodes_is_over_the_limit_in_each_line(rt: HostRuntime) {
     for (before, after, line) in [
         ("s 1 step\np [", ";8] [1;8]\n", 4),
         ("s 1 step\ng [", ";8] [1;8]\n", 4),
@@ -26,14 +33,11 @@ fn a_term_of_33_nodes_is_over_the_limit_in_each_line(rt: HostRuntime) -> Result<
         ("s 1 ret\nv 0\nc [", ";8]\n", 5),
         ("s 1 ret\nv 0\nc [1;8]=", "\n", 5),
     ] {
-        let text = with_large_term(rt.alloc(), before, after)?;
-        match read_graph(rt.alloc(), text.as_slice()) {
-            Ok(_) => assert!(rt; false, "read: {before}"),
-            Err(refusal) => {
-                assert_eq!(rt; refusal.line, line, "the line: {before}");
-                assert_eq!(rt; refusal.cause, TextCause::OverLimit, "the cause: {before}");
-            }
-        }
+        let found = fault_of_large_term(rt.alloc(), before, after);
+        assert_eq!(rt;
+            found,
+            Some((line, TextCause::OverLimit)),
+            "the line of the term"
+        );
     }
-    Ok(())
 }

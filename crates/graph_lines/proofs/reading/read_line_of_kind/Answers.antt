@@ -3,7 +3,7 @@ use Rattle.std.specs.Str.{bytes_eq}
 use Rattle.std.proofs.lemmas.Bool.{and_parts, not-true}
 use Rattle.std.proofs.lemmas.Slice.Eq.{bytes_eq-Decides}
 use Rattle.graph_lines.specs.Text.{line_text}
-use Rattle.graph_lines.specs.Reading.{restates_entry_value}
+use Rattle.graph_lines.specs.Steps.{restates_entry_value}
 use Rattle.graph_lines.proofs.reading.read_line_of_kind.Goals as goal
 
 pub returns-then-branch-clause-found : goal.returns-then-branch-clause-found

@@ -2,7 +2,7 @@ use Rattle.std.proofs.Common.{arith}
 use Rattle.std.proofs.lemmas.Grind.{common_steps}
 use Rattle.graph_lines.specs.Words.{fields}
 use Rattle.graph_lines.specs.Line.{IsEntry}
-use Rattle.graph_lines.specs.Reading.{entry_of}
+use Rattle.graph_lines.specs.Steps.{entry_of}
 use Rattle.graph_lines.proofs.EachLemmas.{each_push}
 use Rattle.graph_lines.proofs.ReadLemmas.{read_more}
 use Rattle.graph_lines.proofs.term_reading.read_givens.Goals as goal

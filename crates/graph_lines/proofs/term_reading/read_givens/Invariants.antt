@@ -3,7 +3,7 @@ use Rattle.std.specs.Option.{option_map}
 use Rattle.graph_data.specs.Parts.{Each}
 use Rattle.graph_lines.specs.Line.{IsEntry}
 use Rattle.graph_lines.specs.Words.{fields, fields_after}
-use Rattle.graph_lines.specs.Reading.{each_read, entry_of}
+use Rattle.graph_lines.specs.Steps.{each_read, entry_of}
 use Rattle.graph_lines.proofs.FieldLemmas.{left}
 use Rattle.graph_lines.proofs.ReadLemmas.{read_prefix}
 use Rattle.graph_lines.proofs.term_reading.read_givens.Given as goal

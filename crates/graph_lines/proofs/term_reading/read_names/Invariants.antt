@@ -4,7 +4,7 @@ use Rattle.sym_terms.specs.Normal.{IsTerm}
 use Rattle.graph_data.specs.Parts.{Each}
 use Rattle.term_text.specs.Reading.{term_at}
 use Rattle.graph_lines.specs.Words.{fields, fields_after}
-use Rattle.graph_lines.specs.Reading.{each_read}
+use Rattle.graph_lines.specs.Steps.{each_read}
 use Rattle.graph_lines.proofs.FieldLemmas.{left}
 use Rattle.graph_lines.proofs.ReadLemmas.{read_prefix}
 use Rattle.graph_lines.proofs.term_reading.read_names.Given as goal
