@@ -1,0 +1,19 @@
+//! Predicates whose terms are numbers of a bank: their data, how they stand to predicates of terms, and how one is
+//! weakened by another. It runs no instruction.
+#![tactic(auto)]
+
+mod list;
+mod node;
+mod parts;
+mod pred;
+mod putting;
+mod reading;
+mod settling;
+mod weakening;
+
+pub use node::{BankNode, copy_nodes};
+pub use parts::{Entry, Memory, Parts};
+pub use pred::BankPred;
+pub use putting::to_bank;
+pub use reading::{copy_at, from_bank, read_nodes};
+pub use settling::settle;
