@@ -1,0 +1,13 @@
+pub mod RowLemmas
+pub mod IndexLemmas
+pub mod WeaveLemmas
+pub mod MemberLemmas
+pub mod MarkLemmas
+pub mod SearchLemmas
+pub mod SublistLemmas
+pub mod LinkLemmas
+pub mod ComponentLemmas
+pub mod EdgeLemmas
+pub mod SiteLemmas
+pub mod OrderLemmas
+pub mod FirstLemmas

@@ -1,0 +1,11 @@
+use Rattle.lift_graph.proofs.LinkLemmas.{row_within, linked_graph, linked_row}
+use Rattle.lift_graph.proofs.links.make_edges.Goals as goal
+
+pub put_row-requires-clause-within : goal.put_row-requires-clause-within
+put_row-requires-clause-within c = row_within c.row_of.new.graph.keys.items c.in_ok-row.row.items c.args.keys.now c.in_ok-row.ensures.row.found
+
+pub returns-clause-graph : goal.returns-clause-graph
+returns-clause-graph c = linked_graph c.args.graph.now c.row_of.new.graph c.put_row.new.graph c.args.vertex c.args.keys.now c.in_ok-row.row.items c.requires.vertex c.requires.graph c.requires.kept c.requires.tagged c.in_ok-row.ensures.listed c.in_ok-row.ensures.row c.in_ok-put_row.ensures.targets c.in_ok-put_row.ensures.square
+
+pub returns-clause-linked : goal.returns-clause-linked
+returns-clause-linked c = linked_row c.args.graph.now c.row_of.new.graph c.put_row.new.graph c.args.vertex c.args.keys.now c.in_ok-row.row.items c.in_ok-row.ensures.row c.in_ok-put_row.ensures.targets
