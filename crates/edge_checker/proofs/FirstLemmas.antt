@@ -1,5 +1,5 @@
 -- The first element of lists that are joined.
-use Rattle.std.proofs.Common.{◌≡◌, ℕ, ◌+◌, ◌<◌, ◌≤◌, suc, Bool, true, false, List, [], ◌∷◌, ◌++◌, Some, None, Option, length, get_or, drop, refl, sym, ◌∙◌, ap, add-one, drop-cons, is_some}
+use Rattle.std.proofs.Common.{◌≡◌, ℕ, ◌+◌, ◌<◌, ◌≤◌, suc, Bool, true, false, List, [], ◌∷◌, ◌++◌, map, Some, None, Option, length, get_or, drop, refl, sym, ◌∙◌, ap, add-one, drop-cons, is_some, IfSome}
 use Rattle.std.specs.List.{flat_map}
 use Rattle.std.proofs.Math.ListN.{drop_of_length-le}
 use Rattle.edge_checker.specs.Breaks.{first}
@@ -45,3 +45,30 @@ goes_on {f = f} {xs = xs} {ys = ys} {i = i} {whole = whole} {x = x} {r = None} f
 pub ends : {X A : Type 0} {f : X → List A} {xs ys : List X} {i : ℕ} {whole : Option A} → IsFirstFrom f xs i whole → ys ≡ xs → length ys ≤ i → None ≡ whole
 ends {f = f} {ys = ys} {i = i} from same h =
     sym (from.same ∙ ap (λ zs. first (flat_map f (drop i zs))) (sym same) ∙ ap (λ zs. first (flat_map f zs)) (drop_of_length-le ys h))
+
+-- ---- rules before others
+
+-- a rule that is broken hides what is behind it
+pub first-rule : {A B : Type 0} (place : A → B) (rules : List A) (rest : List B) (rule : A) → Some rule ≡ first rules → Some (place rule) ≡ first (map place rules ++ rest)
+first-rule place [] rest rule e = absurd (cc)
+first-rule place (x ∷ rules) rest rule e = let same : rule ≡ x = cc in ap (λ y. Some (place y)) same
+
+-- rules that are not broken hide nothing
+pub no-rule : {A B : Type 0} (place : A → B) (rules : List A) (rest : List B) → None ≡ first rules → first rest ≡ first (map place rules ++ rest)
+no-rule place [] rest e = refl
+no-rule place (x ∷ rules) rest e = absurd (cc)
+
+-- the first of the images is the image of the first
+pub first-image : {A B : Type 0} (place : A → B) (rules : List A) (rule : A) → Some rule ≡ first rules → Some (place rule) ≡ first (map place rules)
+first-image place [] rule e = absurd (cc)
+first-image place (x ∷ rules) rule e = let same : rule ≡ x = cc in ap (λ y. Some (place y)) same
+
+pub no-image : {A B : Type 0} (place : A → B) (rules : List A) → None ≡ first rules → None ≡ first (map place rules)
+no-image place [] e = refl
+no-image place (x ∷ rules) e = absurd (cc)
+
+-- the same, of the rules of what is there
+pub image_of : {X A B : Type 0} (place : A → B) (rules : X → List A) (o : Option X) {r : Option A} {rule : A} {b : B}
+    → IfSome o (λ x. r ≡ first (rules x)) → r ≡ Some rule → b ≡ place rule → IfSome o (λ x. Some b ≡ first (map place (rules x)))
+image_of place rules None some is e = tt
+image_of place rules (Some x) {rule = rule} some is e = ap Some e ∙ first-image place (rules x) rule (sym is ∙ some)

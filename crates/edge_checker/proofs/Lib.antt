@@ -1,9 +1,13 @@
 pub mod FirstLemmas
+pub mod EmptyLemmas
 pub mod PlaceLemmas
 pub mod FormLemmas
 pub mod LevelLemmas
-pub mod BreakLemmas
-pub mod EmptyLemmas
-pub mod DecisionLemmas
+pub mod SizeLemmas
+pub mod EntryLemmas
+pub mod KindLemmas
+pub mod CalleeLemmas
+pub mod EdgeLemmas
+pub mod SiteLemmas
 pub mod ValidLemmas
 pub mod VerdictLemmas

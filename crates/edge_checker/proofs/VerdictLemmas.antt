@@ -1,35 +1,47 @@
 -- What holds of the verdict that is given.
-use Rattle.std.proofs.Common.{◌≡◌, ◌↔◌, IfOk, Result, Ok, Err, sym, subst}
+use Rattle.std.proofs.Common.{◌≡◌, ◌↔◌, ◌⊎◌, inl, inr, ℕ, List, sym, ◌∙◌, subst}
 use Rattle.elf_image.specs.declared.image.Image.{Image}
+use Rattle.elf_image.specs.Image.{IsImage}
+use Rattle.graph_data.specs.declared.graph.Function.{Function}
 use Rattle.graph_data.specs.declared.graph.Graph.{Graph}
-use Rattle.graph_data.specs.WellFormed.{IsWellFormed}
+use Rattle.graph_data.specs.WellFormed.{IsFunction, IsWellFormed}
 use Rattle.graph_verdict.specs.declared.verdict.Verdict.{Verdict}
 use Rattle.graph_verdict.specs.declared.verdict.Verdict.TheVariants.{Valid}
 use Rattle.instr_at.specs.At.{instr_at, InstrAtLaw}
 use Rattle.graph_runs.specs.World.{HasSafeRuns}
-use Rattle.graph_rules.specs.Rules.{IsValid}
 use Rattle.safe_runs.specs.Laws.{SafeLaw}
-use Rattle.edge_checker.specs.Breaks.{verdict_of, IsVerdict}
-use Rattle.edge_checker.specs.Laws.{OneVerdictLaw, ValidLaw}
+use Rattle.edge_checker.specs.Decisions.{entries_of}
+use Rattle.edge_checker.specs.Breaks.{first, function_breaks, breaks_of, verdict_from, IsVerdict, IsFunctionVerdict}
+use Rattle.edge_checker.specs.Laws.{IsValid, HoldsIn, OthersHold}
+use Rattle.edge_checker.proofs.ValidLemmas.{valid_exactly, function_exactly}
 
--- what the right verdict says, a verdict that is given says
-given : {E : Type 0} (P : Verdict → Type 0) (v : Verdict) (r : Result Verdict E) → P v → IfOk r (λ w. w ≡ v) → IfOk r P
-given P v (Ok w) holds e = subst P (sym e) holds
-given P v (Err why) holds e = tt
+module _ (found : InstrAtLaw) (image : Image) (v : Verdict) where
+  module _ (g : Graph) (well : IsWellFormed g) (is : v ≡ verdict_from (first (breaks_of image (instr_at image) g))) where
+    pub exact : IsVerdict image g v
+    exact = record { look_up = instr_at image; found = found image; verdict_is = is }
 
-module _ (found : InstrAtLaw) (one : OneVerdictLaw) (law : ValidLaw) (theorem : SafeLaw) (image : Image) (g : Graph) (formed : IsWellFormed g) {E : Type 0} (r : Result Verdict E) (is : IfOk r (λ v. v ≡ verdict_of (instr_at image) g)) where
-  right : IsVerdict image g (verdict_of (instr_at image) g)
-  right = record { look_up = instr_at image; found = found image; verdict_is = λ i. verdict_of (instr_at image) g }
+    pub valid : (v ≡ Valid) ↔ IsValid image g
+    valid =
+        let holds = valid_exactly found image g well in
+        (λ e. holds.0 (sym is ∙ e), λ h. is ∙ holds.1 h)
 
-  pub exact : IfOk r (IsVerdict image g)
-  exact = given (IsVerdict image g) (verdict_of (instr_at image) g) r right is
+    pub safe : SafeLaw → IsImage image → v ≡ Valid → HasSafeRuns image g
+    safe theorem formed e = theorem image g formed well (valid.0 e)
 
-  pub valid : IfOk r (λ v. (v ≡ Valid) ↔ IsValid image g)
-  valid =
-      given (λ v. (v ≡ Valid) ↔ IsValid image g) (verdict_of (instr_at image) g) r
-      (λ e. (law image g formed).0 (subst (IsVerdict image g) e right), λ holds. one image g (verdict_of (instr_at image) g) Valid right ((law image g formed).1 holds)) is
+  module _ (f : Function) (formed : IsFunction f) (entries : List ℕ) (is : v ≡ verdict_from (first (function_breaks image (instr_at image) entries f))) where
+    pub function_exact : IsFunctionVerdict image entries f v
+    function_exact = record { look_up = instr_at image; found = found image; verdict_is = is }
 
-  pub safe : IfOk r (λ v. v ≡ Valid → HasSafeRuns image g)
-  safe =
-      given (λ v. v ≡ Valid → HasSafeRuns image g) (verdict_of (instr_at image) g) r
-      (λ e. theorem image g formed ((law image g formed).0 (subst (IsVerdict image g) e right))) is
+    pub function_valid : (g : Graph) → IsWellFormed g → entries_of g ≡ entries → (v ≡ Valid) ↔ HoldsIn image g f
+    function_valid g well same =
+        let holds = subst (λ es. (verdict_from (first (function_breaks image (instr_at image) es f)) ≡ Valid) ↔ HoldsIn image g f) same (function_exactly found image g well f formed) in
+        (λ e. holds.0 (sym is ∙ e), λ h. is ∙ holds.1 h)
+
+    -- a function that is this one, or another that holds
+    this_or : (g : Graph) → HoldsIn image g f → (h : Function) → (h ≡ f) ⊎ HoldsIn image g h → HoldsIn image g h
+    this_or g holds h (inl same) = subst (HoldsIn image g) (sym same) holds
+    this_or g holds h (inr other) = other
+
+    pub function_safe : SafeLaw → IsImage image → v ≡ Valid → (g : Graph) → IsWellFormed g → entries_of g ≡ entries → OthersHold image g f → HasSafeRuns image g
+    function_safe theorem shape e g well same others =
+        theorem image g shape well (λ k d lt. this_or g ((function_valid g well same).0 e) _ (others k d lt))

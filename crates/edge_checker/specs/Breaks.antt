@@ -1,13 +1,15 @@
 -- The places where a graph breaks a rule, in the order of the file, and the verdict.
-use Rattle.std.specs.Prelude.{◌≡◌, ℕ, ◌==◌, Bool, true, false, List, [], ◌∷◌, ◌++◌, map, Some, None, length, flat_map, option_to_list, option_and_then, slice_get}
-use Rattle.std.specs.List.{enumerate_from}
+use Rattle.std.specs.Prelude.{◌≡◌, ℕ, ◌==◌, Bool, true, false, if◌then◌else◌, List, [], ◌∷◌, ◌++◌, map, Some, None, length, flat_map, option_to_list, option_and_then, slice_get}
+use Rattle.std.specs.List.{enumerate_from, zip}
 use Rattle.std.specs.Option.{option_map}
 use Rattle.std.specs.declared.option.Option.{Option}
 use Rattle.elf_image.specs.declared.image.Image.{Image}
 use Rattle.x86_instr.specs.declared.instr.Instr.{Instr}
+use Rattle.x86_instr.specs.Classes.{class_of}
 use Rattle.instr_at.specs.At.{IsLookup}
 use Rattle.predicates.specs.Predicate.{Predicate}
 use Rattle.predicates.specs.Missing.{missing}
+use Rattle.predicates.specs.Kinds.{has_edges}
 use Rattle.predicates.specs.declared.conjunct.Conjunct.{Conjunct}
 use Rattle.predicates.specs.declared.conjunct.Conjunct.TheVariants.{Register, Flags, Bound, Cell}
 use Rattle.predicates.specs.declared.site.Kind.{Kind}
@@ -20,15 +22,28 @@ use Rattle.graph_data.specs.Lookup.{site_at}
 use Rattle.graph_verdict.specs.declared.verdict.Rule.{Rule}
 use Rattle.graph_verdict.specs.declared.verdict.Broken.{Broken}
 use Rattle.graph_verdict.specs.declared.verdict.Verdict.{Verdict}
-use Rattle.graph_verdict.specs.declared.verdict.Verdict.TheVariants.{Valid, Invalid, NotBuilt}
-use Rattle.graph_rules.specs.declared.built.BuiltInstr.{BuiltInstr}
-use Rattle.graph_rules.specs.Built.{built_at}
-use Rattle.graph_rules.specs.Step.{next_address, after}
-use Rattle.edge_checker.specs.Decisions.{returns, begins_unless_refused, fits}
+use Rattle.graph_verdict.specs.declared.verdict.Verdict.TheVariants.{Valid, Invalid}
+use Rattle.step_rules.specs.View.{View}
+use Rattle.step_rules.specs.Cases.{Case, cases}
+use Rattle.step_rules.specs.Calls.{call_target}
+use Rattle.step_rules.specs.Site.{fork_holds}
+use Rattle.sym_step.specs.Restored.{is_returned}
+use Rattle.sym_step.specs.Kept.{are_kept}
+use Rattle.edge_checker.specs.Decisions.{begins_unless_refused, fits, entries_of, is_callee, goes_to, are_undecided}
+
+-- ---- places
 
 -- the vertex with the number at the first site of the address
 abbrev pub vertex_at : Function → ℕ × ℕ → Option Vertex
 vertex_at f edge = option_and_then (λ site. slice_get site.vertices edge.1) (site_at f edge.0)
+
+-- what the step rules know of a site
+abbrev pub view_of : Image → Function → Site → View
+view_of image f s = record {
+  known = record { image = image; below = f.below; above = f.above; seps = s.seps };
+  fork = s.fork;
+  keeps = s.keeps;
+}
 
 -- a rule is broken where its test fails
 abbrev pub unless : Bool → Rule → List Rule
@@ -40,9 +55,12 @@ abbrev pub broken : ℕ → ℕ → ℕ → ℕ → Rule → Broken
 broken function site vertex number rule =
     record { function = function; site = site; vertex = vertex; case = number; rule = rule }
 
--- the rule of a function that is broken
-abbrev pub entry_rules : Function → List Rule
-entry_rules f = unless (begins_unless_refused f.refused (vertex_at f (f.entry, 0))) Rule.Entry
+-- the first element, if there is one
+abbrev pub first : {A : Type 0} → List A → Option A
+first [] = None
+first (x ∷ xs) = Some x
+
+-- ---- an edge
 
 -- the rule of a conjunct
 abbrev pub rule_of : Conjunct → Rule
@@ -56,94 +74,109 @@ abbrev pub target_rules : Predicate → Option Vertex → List Rule
 target_rules p None = Rule.Vertex ∷ []
 target_rules p (Some target) = option_to_list (option_map rule_of (missing p target.pred))
 
--- the rules that an edge breaks from a predicate on
-abbrev pub edge_rules : Function → Site → BuiltInstr → Predicate → ℕ × ℕ → List Rule
-edge_rules f s i p edge =
-    unless (edge.0 == next_address s.addr i) Rule.Address ++ target_rules (after i.effect p) (vertex_at f edge)
+-- the rules that the edge of a case breaks
+abbrev pub edge_rules : Function → Case × (ℕ × ℕ) → List Rule
+edge_rules f x = unless (x.1.0 == x.0.address) Rule.Address ++ target_rules x.0.pred (vertex_at f x.1)
 
--- the same with their place, for a vertex with its number and an edge with its case
-abbrev pub edge_breaks : Function → Site → BuiltInstr → ℕ × Vertex → ℕ × (ℕ × ℕ) → List Broken
-edge_breaks f s i v edge =
-    map (broken f.entry s.addr v.0 edge.0) (edge_rules f s i v.1.pred edge.1)
+-- the same with their place, for the number of a vertex and of a case
+abbrev pub edge_breaks : Function → Site → ℕ → ℕ × (Case × (ℕ × ℕ)) → List Broken
+edge_breaks f s number x = map (broken f.entry s.addr number x.0) (edge_rules f x.1)
 
--- what the vertex of a step breaks: it has one case and an edge for it, and each edge's rules
-abbrev pub step_breaks : Function → Site → BuiltInstr → ℕ × Vertex → List Broken
-step_breaks f s i v =
-    map (broken f.entry s.addr v.0 0) (unless (length v.1.out == 1) Rule.Cases)
-    ++ flat_map (edge_breaks f s i v) (enumerate_from 0 v.1.out)
+-- ---- a vertex
 
--- what the vertex of a return breaks
-abbrev pub return_breaks : Function → Site → ℕ × Vertex → List Broken
-return_breaks f s v =
-    map (broken f.entry s.addr v.0 0) (unless (returns v.1.pred) Rule.Return)
+-- the rules that a vertex breaks before its cases: a pair that can't be told apart, a call that goes elsewhere, a kept
+-- region that is not known, a return that is not verified
+abbrev pub vertex_rules : Kind → View → Instr → Predicate → List Rule
+vertex_rules Step v i p = unless (fork_holds v i p) Rule.Fork
+vertex_rules (Call target) v i p =
+    unless (goes_to target (call_target v i p)) Rule.Target ++ unless (are_kept v i p) Rule.Keep
+vertex_rules Outside v i p = unless (are_kept v i p) Rule.Keep
+vertex_rules Return v i p = unless (is_returned p) Rule.Return
+vertex_rules (End reason) v i p = []
 
--- what a vertex breaks at a site of a kind; one of another kind breaks the rule of the site itself
-abbrev pub breaks_of_kind : Kind → Function → Site → BuiltInstr → ℕ × Vertex → List Broken
-breaks_of_kind Step f s i v = step_breaks f s i v
-breaks_of_kind (Call entry) f s i v = []
-breaks_of_kind Outside f s i v = []
-breaks_of_kind Return f s i v = return_breaks f s v
-breaks_of_kind (End reason) f s i v = []
+-- what the edges of the vertex with the number break: they are as many as the cases, which are known, and each edge's rules
+abbrev pub edges_break : Function → Site → ℕ → Option (List Case) → List (ℕ × ℕ) → List Broken
+edges_break f s number None out = broken f.entry s.addr number 0 Rule.Cases ∷ []
+edges_break f s number (Some cases) out =
+    map (broken f.entry s.addr number 0) (unless (length out == length cases) Rule.Cases)
+    ++ flat_map (edge_breaks f s number) (enumerate_from 0 (zip cases out))
+
+-- the same, where sites of the kind have edges
+abbrev pub case_breaks : Image → Function → Site → Instr → ℕ × Vertex → List Broken
+case_breaks image f s i v =
+    if has_edges s.kind then edges_break f s v.0 (cases (view_of image f s) i v.1.pred) v.1.out else []
 
 -- what a vertex with its number breaks
-abbrev pub vertex_breaks : Function → Site → BuiltInstr → ℕ × Vertex → List Broken
-vertex_breaks f s i v = breaks_of_kind s.kind f s i v
+abbrev pub vertex_breaks : Image → Function → Site → Instr → ℕ × Vertex → List Broken
+vertex_breaks image f s i v =
+    map (broken f.entry s.addr v.0 0) (vertex_rules s.kind (view_of image f s) i v.1.pred)
+    ++ case_breaks image f s i v
 
--- what a site with the instruction there breaks, its own rule first, then its vertices
-abbrev pub site_breaks : Function → Site → Option BuiltInstr → List Broken
-site_breaks f s None = []
-site_breaks f s (Some i) =
-    map (broken f.entry s.addr 0 0) (unless (fits s.kind i.effect) Rule.Kind)
-    ++ flat_map (vertex_breaks f s i) (enumerate_from 0 s.vertices)
+-- ---- a site
+
+-- a call names a function of the graph that is not refused
+abbrev pub callee_rules : List ℕ → Kind → List Rule
+callee_rules entries Step = []
+callee_rules entries (Call target) = unless (is_callee entries target) Rule.Callee
+callee_rules entries Outside = []
+callee_rules entries Return = []
+callee_rules entries (End reason) = []
+
+-- what a site breaks at an instruction where its kind may stand, its own rules first, then its vertices
+abbrev pub fitting_breaks : Image → List ℕ → Function → Site → Instr → List Broken
+fitting_breaks image entries f s i =
+    map (broken f.entry s.addr 0 0)
+    (callee_rules entries s.kind ++ unless (are_undecided (view_of image f s)) Rule.Decided)
+    ++ flat_map (vertex_breaks image f s i) (enumerate_from 0 s.vertices)
+
+-- what a site breaks at an instruction, or where there is none: where its kind may not stand, that rule alone, since the
+-- others ask for an instruction of its class
+abbrev pub breaks_at : Image → List ℕ → Function → Site → Option Instr → List Broken
+breaks_at image entries f s None = broken f.entry s.addr 0 0 Rule.Kind ∷ []
+breaks_at image entries f s (Some i) =
+    if fits s.kind (class_of i.op) then fitting_breaks image entries f s i
+    else broken f.entry s.addr 0 0 Rule.Kind ∷ []
+
+-- what a site of a kind breaks; an end breaks nothing
+abbrev pub breaks_of_kind : Kind → Image → List ℕ → Function → Site → Option Instr → List Broken
+breaks_of_kind Step image entries f s i = breaks_at image entries f s i
+breaks_of_kind (Call target) image entries f s i = breaks_at image entries f s i
+breaks_of_kind Outside image entries f s i = breaks_at image entries f s i
+breaks_of_kind Return image entries f s i = breaks_at image entries f s i
+breaks_of_kind (End reason) image entries f s i = []
+
+-- what a site breaks, by a look-up of instructions
+abbrev pub site_breaks : Image → (ℕ → Option Instr) → List ℕ → Function → Site → List Broken
+site_breaks image look_up entries f s = breaks_of_kind s.kind image entries f s (look_up s.addr)
+
+-- ---- a function and a graph
+
+-- the rule of a function that is broken
+abbrev pub entry_rules : Function → List Rule
+entry_rules f = unless (begins_unless_refused f.refused (vertex_at f (f.entry, 0))) Rule.Entry
 
 -- what a function breaks, its own rule first, which names the entry as its site, then its sites
-abbrev pub function_breaks : (ℕ → Option Instr) → Function → List Broken
-function_breaks look_up f =
-    map (broken f.entry f.entry 0 0) (entry_rules f)
-    ++ flat_map (λ s. site_breaks f s (built_at look_up s)) f.sites
+abbrev pub function_breaks : Image → (ℕ → Option Instr) → List ℕ → Function → List Broken
+function_breaks image look_up entries f =
+    map (broken f.entry f.entry 0 0) (entry_rules f) ++ flat_map (site_breaks image look_up entries f) f.sites
 
 -- what a graph breaks, function by function
-abbrev pub breaks_of : (ℕ → Option Instr) → Graph → List Broken
-breaks_of look_up g = flat_map (function_breaks look_up) g.functions
+abbrev pub breaks_of : Image → (ℕ → Option Instr) → Graph → List Broken
+breaks_of image look_up g = flat_map (function_breaks image look_up (entries_of g)) g.functions
 
--- the address of a site, where the site is not built
-abbrev pub unbuilt_at : ℕ → Option BuiltInstr → List ℕ
-unbuilt_at addr None = addr ∷ []
-unbuilt_at addr (Some i) = []
-
--- the addresses of such sites in a function
-abbrev pub unbuilt_in : (ℕ → Option Instr) → Function → List ℕ
-unbuilt_in look_up f = flat_map (λ s. unbuilt_at s.addr (built_at look_up s)) f.sites
-
--- and in a graph
-abbrev pub unbuilt_of : (ℕ → Option Instr) → Graph → List ℕ
-unbuilt_of look_up g = flat_map (unbuilt_in look_up) g.functions
-
--- the first element, if there is one
-abbrev pub first : {A : Type 0} → List A → Option A
-first [] = None
-first (x ∷ xs) = Some x
-
--- a site that is not built comes before every break
-abbrev pub verdict_from : Option ℕ → Option Broken → Verdict
-verdict_from (Some site) break = NotBuilt site
-verdict_from None (Some break) = Invalid break
-verdict_from None None = Valid
-
--- the first site of a graph, in the order of the file, that is not built
-abbrev pub first_unbuilt : (ℕ → Option Instr) → Graph → Option ℕ
-first_unbuilt look_up g = first (unbuilt_of look_up g)
-
--- the verdict on a graph, by a look-up of instructions
-abbrev pub verdict_of : (ℕ → Option Instr) → Graph → Verdict
-verdict_of look_up g = verdict_from (first_unbuilt look_up g) (first (breaks_of look_up g))
+-- the first break is the verdict
+abbrev pub verdict_from : Option Broken → Verdict
+verdict_from (Some break) = Invalid break
+verdict_from None = Valid
 
 -- the verdict on a graph against an executable
 pub record IsVerdict (image : Image) (g : Graph) (verdict : Verdict) : Type 0 where
   pub look_up : ℕ → Option Instr
   pub found : IsLookup image look_up
-  pub verdict_is : verdict ≡ verdict_of look_up g
+  pub verdict_is : verdict ≡ verdict_from (first (breaks_of image look_up g))
 
--- the graph of one function alone
-abbrev pub only_function : Function → Graph
-only_function f = record { functions = f ∷ [] }
+-- the verdict on a function, where the functions with these entries are not refused
+pub record IsFunctionVerdict (image : Image) (entries : List ℕ) (f : Function) (verdict : Verdict) : Type 0 where
+  pub look_up : ℕ → Option Instr
+  pub found : IsLookup image look_up
+  pub verdict_is : verdict ≡ verdict_from (first (function_breaks image look_up entries f))

@@ -1,25 +1,26 @@
 // The verdict on a graph.
-ghost use Rattle.std.specs.Prelude.{◌≡◌, ℕ, ◌↔◌, IfOk, IsNone};
+ghost use Rattle.std.specs.Prelude.{◌≡◌, ◌↔◌, ℕ, [], ◌∷◌, ◌++◌, IfOk, OnOk, IsNone};
+ghost use Rattle.graph_data.specs.Parts.{Ascends};
 ghost use Rattle.graph_data.specs.WellFormed.{IsFunction, IsWellFormed};
 ghost use Rattle.instr_at.specs.At.{instr_at};
 ghost use Rattle.graph_runs.specs.World.{HasSafeRuns};
-ghost use Rattle.graph_rules.specs.Rules.{IsValid};
-ghost use Rattle.edge_checker.specs.Breaks.{first, verdict_of, breaks_of, unbuilt_of, IsVerdict, only_function};
-ghost use Rattle.edge_checker.specs.Laws.{OneVerdictLaw, ValidLaw, NoBreakLaw};
+ghost use Rattle.edge_checker.specs.Decisions.{entries_in, entries_of};
+ghost use Rattle.edge_checker.specs.Breaks.{first, verdict_from, function_breaks, breaks_of, IsVerdict, IsFunctionVerdict};
+ghost use Rattle.edge_checker.specs.Laws.{IsValid, HoldsIn, OthersHold, OneVerdictLaw, ValidLaw, FunctionLaw, NoBreakLaw};
 
-use crate::sites::{function_break, unbuilt_site};
+use crate::sites::function_break;
 use elf_image::Image;
 use graph_data::{Function, Graph, Policy};
 use graph_verdict::{Broken, Verdict};
 use instr_at::instr_at_laws;
 use safe_runs::runs_are_safe;
-use std::alloc::Global;
+use std::alloc::{AllocError, Global};
 use sym_terms::NoMemory;
 
-/// Checks a graph against an executable: `NotBuilt` with the first site, in the order of the file, that is not built
-/// yet; else `Invalid` with the first rule that is broken and its place; else `Valid`, exactly where
-/// every rule holds, and then every run that keeps what the graph prints is safe. There is no check against a policy yet. It takes memory at a move, for the predicate after it,
-/// and at a return, for one address, and gives it back at once; `NoMemory` where that is refused.
+/// Checks a graph against an executable: `Valid` exactly where every rule holds, and then every run that keeps what the
+/// graph prints is safe; else `Invalid` with the first rule that is broken and its place. There is no check against a
+/// policy yet. It takes memory for the entries of the functions, and at each vertex for what is known after its
+/// instruction, which it gives back before the next; `NoMemory` where that is refused.
 pub fn check(
     alloc: Global,
     image: &Image,
@@ -33,88 +34,85 @@ pub fn check(
     ensures safe { IfOk result (λ v. v ≡ Verdict.Valid → HasSafeRuns image.now g.now) }
 {
     let _ = full;
+    // the law asks for segments that ascend
+    image.segments();
     instr_at_laws();
-    verdict_laws();
     runs_are_safe();
-    verdict(alloc, image, g)
+    Ok(verdict_from(first_break(alloc, image, g)?))
 }
 
-/// Checks one function against an executable, as `check` does a graph of that function alone. `entries` are the entries of the
-/// functions that are not refused: no rule of a site that is built speaks of them yet. `NoMemory` as of `check`.
+/// Checks one function against an executable, where `entries` are those of the functions that are not refused,
+/// ascending: the answer is that of `check` on a graph whose other functions hold. `NoMemory` as of `check`.
 pub fn check_function(
     alloc: Global,
     image: &Image,
     f: &Function,
     entries: &[u64],
 ) -> Result<Verdict, NoMemory>
-    requires { IsFunction f.now }
-    ensures exact { IfOk result (IsVerdict image.now (only_function f.now)) }
-    ensures valid { IfOk result (λ v. (v ≡ Verdict.Valid) ↔ IsValid image.now (only_function f.now)) }
-    ensures safe { IfOk result (λ v. v ≡ Verdict.Valid →
-        HasSafeRuns image.now (only_function f.now)) }
+    requires function { IsFunction f.now }
+    requires entries { Ascends entries.now }
+    ensures exact { IfOk result (IsFunctionVerdict image.now entries.now f.now) }
+    ensures valid { IfOk result (λ v. (g : Graph) → IsWellFormed g → entries_of g ≡ entries.now →
+        ((v ≡ Verdict.Valid) ↔ HoldsIn image.now g f.now)) }
+    ensures safe { IfOk result (λ v. v ≡ Verdict.Valid → (g : Graph) → IsWellFormed g →
+        entries_of g ≡ entries.now → OthersHold image.now g f.now → HasSafeRuns image.now g) }
 {
-    let _ = entries;
+    // the law asks for segments that ascend
+    image.segments();
     instr_at_laws();
-    verdict_laws();
     runs_are_safe();
-    function_verdict(alloc, image, f)
+    Ok(verdict_from(function_break(alloc, image, f, entries)?))
 }
 
-/// The laws of verdicts, of every executable and every well-formed graph: there is one, it is `Valid`
-/// exactly where the graph is, and where every site is built there is no break exactly where each
-/// rule holds. The call does nothing.
+/// The laws of verdicts, of every executable and every well-formed graph: there is one, it is `Valid` exactly where the
+/// graph is, function by function, and there is no break exactly where each rule holds. The call does nothing.
 pub fn verdict_laws()
     ensures one { OneVerdictLaw }
     ensures valid { ValidLaw }
+    ensures function { FunctionLaw }
     ensures no_break { NoBreakLaw }
 {
     instr_at_laws();
 }
 
-fn verdict(alloc: Global, image: &Image, g: &Graph) -> Result<Verdict, NoMemory>
-    requires { IsWellFormed g.now }
-    ensures { IfOk result (λ v. v ≡ verdict_of (instr_at image.now) g.now) }
+// The first break is the verdict.
+fn verdict_from(broken: Option<Broken>) -> Verdict
+    ensures { result ≡ verdict_from broken }
 {
-    if let Some(site) = first_unbuilt_site(image, g) {
-        return Ok(Verdict::NotBuilt { site });
-    }
-    match first_break(alloc, image, g)? {
-        Some(broken) => Ok(Verdict::Invalid(broken)),
-        None => Ok(Verdict::Valid),
+    match broken {
+        Some(broken) => Verdict::Invalid(broken),
+        None => Verdict::Valid,
     }
 }
 
-fn function_verdict(alloc: Global, image: &Image, f: &Function) -> Result<Verdict, NoMemory>
-    requires { IsFunction f.now }
-    ensures { IfOk result (λ v. v ≡ verdict_of (instr_at image.now) (only_function f.now)) }
+// The entries of the functions that are not refused.
+fn entries_of(alloc: Global, g: &Graph) -> Result<Vec<u64>, NoMemory>
+    ensures { IfOk result (λ out. out.items ≡ entries_of g.now) }
 {
-    if let Some(site) = unbuilt_site(image, f) {
-        return Ok(Verdict::NotBuilt { site });
-    }
-    match function_break(alloc, image, f)? {
-        Some(broken) => Ok(Verdict::Invalid(broken)),
-        None => Ok(Verdict::Valid),
-    }
-}
-
-fn first_unbuilt_site(image: &Image, g: &Graph) -> Option<u64>
-    ensures { result ≡ first (unbuilt_of (instr_at image.now) g.now) }
-{
+    let mut entries = Vec::new(alloc);
     for function in g.functions.as_slice() {
-        let site = unbuilt_site(image, function);
-        if site.is_some() {
-            return site;
-        }
+        push_entry(&mut entries, function)?;
     }
-    None
+    Ok(entries)
+}
+
+// One more entry, where the function is not refused.
+fn push_entry(entries: &mut Vec<u64>, f: &Function) -> Result<(), NoMemory>
+    ensures { OnOk result (entries.new.items ≡ entries.old.items ++ entries_in (f.now ∷ [])) }
+{
+    if f.refused.is_none() {
+        entries.push(f.entry).map_err(AllocError::from)?;
+    }
+    Ok(())
 }
 
 fn first_break(alloc: Global, image: &Image, g: &Graph) -> Result<Option<Broken>, NoMemory>
     requires { IsWellFormed g.now }
-    ensures { IfOk result (λ b. b ≡ first (breaks_of (instr_at image.now) g.now)) }
+    ensures { IfOk result (λ b. b ≡ first (breaks_of image.now (instr_at image.now) g.now)) }
 {
+    let entries = entries_of(alloc, g)?;
     for function in g.functions.as_slice() {
-        let broken = function_break(alloc, image, function)?;
+        let broken = function_break(alloc, image, function, entries.as_slice())?;
         if broken.is_some() {
             return Ok(broken);
         }

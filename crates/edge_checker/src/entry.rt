@@ -1,31 +1,47 @@
-// What holds where a function begins and where it returns.
-ghost use Rattle.std.specs.Prelude.{◌≡◌, ℕ, IfOk};
-ghost use Rattle.std.specs.List.{list_all};
+// Whether a function begins with the entry predicate. No call takes memory.
+ghost use Rattle.std.specs.Prelude.{◌≡◌, map};
 ghost use Rattle.std.specs.Option.{option_copied};
+ghost use Rattle.graph_data.specs.Parts.{Ascends};
 ghost use Rattle.mem_forest.specs.Plain.{cells};
 ghost use Rattle.sym_terms.specs.declared.kinds.Sym.TheVariants.{Entry, Ra};
-ghost use Rattle.sym_terms.specs.Plain.{single_atom, symbol};
-ghost use Rattle.graph_rules.specs.Simple.{knows_symbol};
-ghost use Rattle.predicate_meaning.specs.Returns.{saved_registers, return_cell};
-ghost use Rattle.edge_checker.specs.Decisions.{is_restored, returns, are_entries, is_entry_node, is_entry_forest, is_entry};
+ghost use Rattle.sym_step.specs.Restored.{is_known};
+ghost use Rattle.edge_checker.specs.Breaks.{vertex_at};
+ghost use Rattle.edge_checker.specs.Decisions.{are_entries, is_top, has_no_node, is_entry_node, is_entry_forest, is_entry, begins, begins_unless_refused};
 
-use crate::first_path::{has_no_node, is_top, knows_symbol};
-use mem_forest::{Node, Region};
+use crate::places::vertex_there;
+use graph_data::Function;
+use mem_forest::Node;
 use predicates::Pred;
-use std::alloc::Global;
-use sym_terms::{NoMemory, Sym, Term};
+use sym_terms::{Sym, Term};
+use x86_instr::RSP;
 
 /// The numbers of the sixteen registers.
 const REGISTERS: [u8; 16] = [0, 1, 2, 3, 4, 5, 6, 7, 8, 9, 10, 11, 12, 13, 14, 15];
 
-/// The stack pointer.
-const RSP: u8 = 4;
+/// Whether the function is refused, or begins with the entry predicate.
+pub fn begins(f: &Function) -> bool
+    requires { Ascends (map (λ s. s.addr) f.now.sites) }
+    ensures { result ≡ begins_unless_refused f.now.refused (vertex_at f.now (f.now.entry, 0)) }
+{
+    match f.refused {
+        Some(_) => true,
+        None => has_entry_vertex(f),
+    }
+}
 
-/// rbx, rbp and r12 to r15 (System V x86-64 psABI, section 3.2.1).
-const SAVED: [u8; 6] = [3, 5, 12, 13, 14, 15];
+// Whether a site stands at the entry, with the entry predicate as its vertex 0.
+fn has_entry_vertex(f: &Function) -> bool
+    requires { Ascends (map (λ s. s.addr) f.now.sites) }
+    ensures { result ≡ begins (vertex_at f.now (f.now.entry, 0)) }
+{
+    match vertex_there(f, f.entry, 0) {
+        Some(vertex) => is_entry(&vertex.pred),
+        None => false,
+    }
+}
 
-/// Whether the predicate is the entry predicate.
-pub fn is_entry(p: &Pred) -> bool
+// Whether the predicate is the entry predicate.
+fn is_entry(p: &Pred) -> bool
     ensures { result ≡ is_entry p.now }
 {
     are_entries(p.regs.as_slice())
@@ -34,23 +50,13 @@ pub fn is_entry(p: &Pred) -> bool
         && is_entry_level(p.forest.nodes())
 }
 
-/// Whether what a callee keeps is as it was at the entry, and the 8 bytes at rsp0 are the return address. It takes
-/// memory for the address rsp0.
-pub fn returns(alloc: Global, p: &Pred) -> Result<bool, NoMemory>
-    ensures { IfOk result (λ r. r ≡ returns p.now) }
-{
-    let at = Term::symbol(alloc, Sym::Entry(RSP))?;
-    let top = Region { at, bytes: 8 };
-    Ok(is_restored(p, RSP) && are_restored(p) && has_return_address(p, &top))
-}
-
 fn are_entries(regs: &[Option<Term>]) -> bool
     ensures { result ≡ are_entries regs.now }
 {
     REGISTERS
         .iter()
         .zip(regs)
-        .all(|(r, term)| knows_symbol(Sym::Entry(*r), term.as_ref()))
+        .all(|(r, term)| is_known(term.as_ref(), Sym::Entry(*r)))
 }
 
 fn is_entry_level(nodes: &[Node]) -> bool
@@ -68,34 +74,38 @@ fn is_entry_node(node: &Node) -> bool
 {
     is_top(node.names.as_slice())
         && node.bytes == 8
-        && knows_symbol(Sym::Ra, node.value.as_ref())
+        && is_known(node.value.as_ref(), Sym::Ra)
         && has_no_node(node.under.as_slice())
 }
 
-fn are_restored(p: &Pred) -> bool
-    ensures { result ≡ list_all (is_restored p.now) saved_registers }
+// Whether the one name is rsp0.
+fn is_top(names: &[Term]) -> bool
+    ensures { result ≡ is_top names.now }
 {
-    SAVED.iter().all(|r| is_restored(p, *r))
-}
-
-// Whether the register has its own entry symbol.
-#[tactic(auto, unfolding(predicate_meaning::specs::Sat::register))]
-fn is_restored(p: &Pred, r: u8) -> bool
-    ensures { result ≡ is_restored p.now r }
-{
-    match p.regs.get(usize::from(r)) {
-        Some(term) => knows_symbol(Sym::Entry(r), term.as_ref()),
-        None => false,
+    match names {
+        [name] => is_known(Some(name), Sym::Entry(RSP)),
+        _ => false,
     }
 }
 
-fn has_return_address(p: &Pred, top: &Region) -> bool
-    requires at { top.now.at ≡ single_atom (symbol (Entry 4)) }
-    requires bytes { top.now.bytes ≡ 8 }
-    ensures { result ≡ knows_symbol Ra (return_cell p.now) }
+fn has_no_node(nodes: &[Node]) -> bool
+    ensures { result ≡ has_no_node (cells nodes.now) }
 {
-    match p.forest.find(top) {
-        Some(node) => knows_symbol(Sym::Ra, node.value.as_ref()),
+    match nodes {
+        [] => true,
+        _ => false,
+    }
+}
+
+// Whether a term is known and is a symbol alone.
+fn is_known(term: Option<&Term>, s: Sym) -> bool
+    ensures { result ≡ is_known s (option_copied term.entry) }
+{
+    match term {
+        Some(term) => match term.as_symbol() {
+            Some(own) => own.compare(s).is_eq(),
+            None => false,
+        },
         None => false,
     }
 }

@@ -2,11 +2,10 @@
 //! It trusts nothing that made the graph.
 #![tactic(auto)]
 
-mod built;
 mod checking;
-mod entails;
+mod edges;
 mod entry;
-mod first_path;
+mod kinds;
 mod places;
 mod sites;
 mod vertices;

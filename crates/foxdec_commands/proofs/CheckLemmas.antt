@@ -6,15 +6,14 @@ use Rattle.elf_image.specs.declared.image.Image.{Image}
 use Rattle.graph_data.specs.declared.graph.Graph.{Graph}
 use Rattle.graph_verdict.specs.declared.verdict.Broken.{Broken}
 use Rattle.graph_verdict.specs.declared.verdict.Verdict.{Verdict}
-use Rattle.graph_verdict.specs.declared.verdict.Verdict.TheVariants.{Valid, Invalid, NotBuilt}
+use Rattle.graph_verdict.specs.declared.verdict.Verdict.TheVariants.{Valid, Invalid}
 use Rattle.elf_image.specs.Loaded.{image_of}
 use Rattle.graph_data.specs.WellFormed.{IsWellFormed}
 use Rattle.graph_text.specs.Text.{graph_text}
 use Rattle.graph_runs.specs.World.{HasSafeRuns}
-use Rattle.graph_rules.specs.Rules.{IsValid}
 use Rattle.safe_runs.specs.Laws.{SafeLaw}
 use Rattle.edge_checker.specs.Breaks.{IsVerdict}
-use Rattle.edge_checker.specs.Laws.{ValidLaw}
+use Rattle.edge_checker.specs.Laws.{IsValid, ValidLaw}
 use Rattle.report.specs.Text.{IsReport}
 use Rattle.foxdec_commands.specs.declared.file_refusal.FileRefusal.{FileRefusal}
 use Rattle.foxdec_commands.specs.FileRefusal.{executable_refusal}
@@ -26,24 +25,22 @@ use Rattle.foxdec_commands.specs.Outcome.{IsExecutable, IsGraphText, IsRefusedFi
 use Rattle.foxdec_commands.specs.Outside.{Files, Stream, Adds, Says}
 use Rattle.foxdec_commands.specs.Guarantee.{Gives, Ends, IsExcused, GivesDue, file_of, SaysRefused, AddsListing, HoldsBetween, AllowsBoth, AddsReport, IsFirstBroken}
 use Rattle.foxdec_commands.proofs.GuaranteeLemmas.{answers, decides}
+use Rattle.foxdec_commands.proofs.ImageLemmas.{image_in_form}
 
 -- the verdict of an ending with status 0
-judged-0 : (graph : List ℕ) (v : Verdict) → status_of (verdict_ending graph v) ≡ 0 → v ≡ Valid
-judged-0 graph Valid is = refl
-judged-0 graph (Invalid broken) is = absurd (omega (arith, is))
-judged-0 graph (NotBuilt site) is = absurd (omega (arith, is))
+judged-0 : (v : Verdict) → status_of (verdict_ending v) ≡ 0 → v ≡ Valid
+judged-0 Valid is = refl
+judged-0 (Invalid broken) is = absurd (omega (arith, is))
 
 -- and with status 1
-judged-1 : (graph : List ℕ) (v : Verdict) → status_of (verdict_ending graph v) ≡ 1 → (broken : Broken) × (v ≡ Invalid broken)
-judged-1 graph Valid is = absurd (omega (arith, is))
-judged-1 graph (Invalid broken) is = (broken, refl)
-judged-1 graph (NotBuilt site) is = absurd (omega (arith, is))
+judged-1 : (v : Verdict) → status_of (verdict_ending v) ≡ 1 → (broken : Broken) × (v ≡ Invalid broken)
+judged-1 Valid is = absurd (omega (arith, is))
+judged-1 (Invalid broken) is = (broken, refl)
 
 -- no verdict has status 4 or 5
-pub judged-not_4_5 : (graph : List ℕ) (v : Verdict) → (status_of (verdict_ending graph v) ≡ 4) ⊎ (status_of (verdict_ending graph v) ≡ 5) → ⊥
-judged-not_4_5 graph Valid is = grind (arith, is)
-judged-not_4_5 graph (Invalid broken) is = grind (arith, is)
-judged-not_4_5 graph (NotBuilt site) is = grind (arith, is)
+pub judged-not_4_5 : (v : Verdict) → (status_of (verdict_ending v) ≡ 4) ⊎ (status_of (verdict_ending v) ≡ 5) → ⊥
+judged-not_4_5 Valid is = grind (arith, is)
+judged-not_4_5 (Invalid broken) is = grind (arith, is)
 
 -- an ending with status 4 of `check` is a refusal of the executable
 module _ (known : List ℕ → Option (List ℕ)) (e : Ending) (four : status_of e ≡ 4) where
@@ -58,7 +55,7 @@ module _ (known : List ℕ → Option (List ℕ)) (e : Ending) (four : status_of
 
   pub refused_file : (asked : Asked) → ComesTo Allows known asked e → Allows (known (file_of asked)) (λ bytes. IsRefusedFile (file_of asked) bytes e)
   refused_file (check file graph) came =
-      refused_of_both file graph (GivesVerdict graph) (λ image g is. judged-not_4_5 graph is.verdict (inl (sym (ap status_of is.says) ∙ four))) came
+      refused_of_both file graph GivesVerdict (λ image g is. judged-not_4_5 is.verdict (inl (sym (ap status_of is.says) ∙ four))) came
   refused_file (report file graph) came =
       refused_of_both file graph GivesReport (λ image g is. omega (arith, four, ap status_of is.says)) came
   refused_file (show file address count) (bytes, all, inl refused) = (bytes, all, refused)
@@ -121,12 +118,12 @@ module _ (files : Files) (out err : Stream) (file graph : List ℕ) (status : �
   valid_of law zero given =
       let e = given.ending in
       let is_zero : status_of e ≡ 0 = sym given.gives.status_is ∙ zero in
-      let both = judges files.known file graph (GivesVerdict graph) e (omega (arith, is_zero)) given.due.allowed in
+      let both = judges files.known file graph GivesVerdict e (omega (arith, is_zero)) given.due.allowed in
       let of = both.2.2 in
       let v = of.4.verdict in
-      let valid : v ≡ Valid = judged-0 graph v (ap status_of (sym of.4.says) ∙ is_zero) in (
+      let valid : v ≡ Valid = judged-0 v (ap status_of (sym of.4.says) ∙ is_zero) in (
         (both.0, both.1, (both.2.0, both.2.1, (of.0, of.1, of.2, of.3, (law of.0 of.1 of.3.formed).0 (subst (IsVerdict of.0 of.1) valid of.4.is)))),
-        subst (Adds out) (ap output_of of.4.says ∙ ap (λ u. output_of (verdict_ending graph u)) valid) given.gives.output,
+        subst (Adds out) (ap output_of of.4.says ∙ ap (λ u. output_of (verdict_ending u)) valid) given.gives.output,
       )
 
   pub only_valid : ValidLaw → status ≡ 0 → AllowsBoth IsValid (files.known file) (files.known graph) × Adds out valid_line
@@ -143,7 +140,7 @@ module _ (files : Files) (out err : Stream) (file graph : List ℕ) (status : �
       let image_same : of.0 ≡ image = of.2.loaded ∙ ap image_of file_same ∙ sym executable.loaded in
       let text_same : both.2.0 ≡ text = both.2.1 text graph_is in
       let graph_same : of.1 ≡ g = one_text of.1 g of.3.formed spelled.formed (sym of.3.spelled ∙ text_same ∙ spelled.spelled) in
-      subst (λ (i : Image). HasSafeRuns i g) image_same (subst (λ (h : Graph). HasSafeRuns of.0 h) graph_same (theorem of.0 of.1 of.3.formed of.4))
+      subst (λ (i : Image). HasSafeRuns i g) image_same (subst (λ (h : Graph). HasSafeRuns of.0 h) graph_same (theorem of.0 of.1 (image_in_form both.0 of.0 of.2) of.3.formed of.4))
 
   -- 1 only with the first broken rule
   broken_of : status ≡ 1 → GivesDue files out err (check file graph) status
@@ -151,13 +148,13 @@ module _ (files : Files) (out err : Stream) (file graph : List ℕ) (status : �
   broken_of one given =
       let e = given.ending in
       let is_one : status_of e ≡ 1 = sym given.gives.status_is ∙ one in
-      let both = judges files.known file graph (GivesVerdict graph) e (omega (arith, is_one)) given.due.allowed in
+      let both = judges files.known file graph GivesVerdict e (omega (arith, is_one)) given.due.allowed in
       let of = both.2.2 in
       let v = of.4.verdict in
-      let broken = judged-1 graph v (ap status_of (sym of.4.says) ∙ is_one) in (
+      let broken = judged-1 v (ap status_of (sym of.4.says) ∙ is_one) in (
         broken.0,
         (both.0, both.1, (both.2.0, both.2.1, (of.0, of.1, of.2, of.3, subst (IsVerdict of.0 of.1) broken.1 of.4.is))),
-        subst (Adds out) (ap output_of of.4.says ∙ ap (λ u. output_of (verdict_ending graph u)) broken.1) given.gives.output,
+        subst (Adds out) (ap output_of of.4.says ∙ ap (λ u. output_of (verdict_ending u)) broken.1) given.gives.output,
       )
 
   pub only_broken : status ≡ 1 → (broken : Broken) × AllowsBoth (IsFirstBroken broken) (files.known file) (files.known graph) × Adds out (invalid_line broken)
@@ -165,12 +162,12 @@ module _ (files : Files) (out err : Stream) (file graph : List ℕ) (status : �
 
   -- the verdict of known files is given, but for the excuses
   verdict_given : (bytes text : List ℕ) → files.known file ≡ Some bytes → files.known graph ≡ Some text → (v : Verdict) → HoldsBetween (λ image g. IsVerdict image g v) bytes text
-      → Gives out err status (verdict_ending graph v) ⊎ IsExcused files out (check file graph) status
+      → Gives out err status (verdict_ending v) ⊎ IsExcused files out (check file graph) status
   verdict_given bytes text file_is graph_is v of =
-      decides files out err status (check file graph) (verdict_ending graph v)
+      decides files out err status (check file graph) (verdict_ending v)
       (bytes, file_is, inr (of.0, of.2, (text, graph_is, inr (of.1, of.3, record { verdict = v; is = of.4; says = refl })))) ends
 
-  valid_given : Gives out err status (verdict_ending graph Valid) ⊎ IsExcused files out (check file graph) status → ((status ≡ 0) × Adds out valid_line) ⊎ IsExcused files out (check file graph) status
+  valid_given : Gives out err status (verdict_ending Valid) ⊎ IsExcused files out (check file graph) status → ((status ≡ 0) × Adds out valid_line) ⊎ IsExcused files out (check file graph) status
   valid_given (inl gives) = inl (gives.status_is, gives.output)
   valid_given (inr excused) = inr excused
 
@@ -180,7 +177,7 @@ module _ (files : Files) (out err : Stream) (file graph : List ℕ) (status : �
   all_valid law bytes text file_is graph_is of =
       valid_given (verdict_given bytes text file_is graph_is Valid (of.0, of.1, of.2, of.3, (law of.0 of.1 of.3.formed).1 of.4))
 
-  broken_given : (broken : Broken) → Gives out err status (verdict_ending graph (Invalid broken)) ⊎ IsExcused files out (check file graph) status
+  broken_given : (broken : Broken) → Gives out err status (verdict_ending (Invalid broken)) ⊎ IsExcused files out (check file graph) status
       → ((status ≡ 1) × Adds out (invalid_line broken)) ⊎ IsExcused files out (check file graph) status
   broken_given broken (inl gives) = inl (gives.status_is, gives.output)
   broken_given broken (inr excused) = inr excused

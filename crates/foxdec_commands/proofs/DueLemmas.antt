@@ -5,7 +5,7 @@ use Rattle.wire_io.specs.Counts.{Rose}
 use Rattle.elf_image.specs.declared.image.Image.{Image}
 use Rattle.graph_data.specs.declared.graph.Graph.{Graph}
 use Rattle.graph_verdict.specs.declared.verdict.Verdict.{Verdict}
-use Rattle.graph_verdict.specs.declared.verdict.Verdict.TheVariants.{Valid, Invalid, NotBuilt}
+use Rattle.graph_verdict.specs.declared.verdict.Verdict.TheVariants.{Valid, Invalid}
 use Rattle.instr_at.specs.At.{OneLookupLaw}
 use Rattle.edge_checker.specs.Laws.{OneVerdictLaw}
 use Rattle.report.specs.Text.{report_text}
@@ -19,9 +19,9 @@ use Rattle.foxdec_commands.specs.FileResult.{IsTaken, IsRefused}
 use Rattle.foxdec_commands.proofs.FileResultLemmas.{refused_allowed, refused_decided, taken_allowed, taken_decided}
 
 -- a graph has one verdict, and an executable one listing
-pub one_verdict : OneVerdictLaw → (graph : List ℕ) (image : Image) (g : Graph) (e other : Ending) → GivesVerdict graph image g e → GivesVerdict graph image g other → e ≡ other
-one_verdict one graph image g e other this that =
-    this.says ∙ ap (verdict_ending graph) (one image g this.verdict that.verdict this.is that.is) ∙ sym that.says
+pub one_verdict : OneVerdictLaw → (image : Image) (g : Graph) (e other : Ending) → GivesVerdict image g e → GivesVerdict image g other → e ≡ other
+one_verdict one image g e other this that =
+    this.says ∙ ap verdict_ending (one image g this.verdict that.verdict this.is that.is) ∙ sym that.says
 
 pub same_listing : OneLookupLaw → (image : Image) (count address : ℕ) (lines others : List ℕ) → IsListing image count address lines → IsListing image count address others → lines ≡ others
 same_listing one image count address lines others this that =
@@ -85,7 +85,7 @@ module _ (known : List ℕ → Option (List ℕ)) (file graph : List ℕ) (Give 
     )
 
 -- so it is for `check` and for `report`
-pub check_due : (known : List ℕ → Option (List ℕ)) (file graph : List ℕ) (e : Ending) → IsDueOfBoth known file graph (GivesVerdict graph) e → IsDue known (check file graph) e
+pub check_due : (known : List ℕ → Option (List ℕ)) (file graph : List ℕ) (e : Ending) → IsDueOfBoth known file graph GivesVerdict e → IsDue known (check file graph) e
 check_due known file graph e due = record { allowed = due.0; decided = due.1 }
 
 pub report_due : (known : List ℕ → Option (List ℕ)) (file graph : List ℕ) (e : Ending) → IsDueOfBoth known file graph GivesReport e → IsDue known (report file graph) e
@@ -107,14 +107,13 @@ module _ (known : List ℕ → Option (List ℕ)) (file : List ℕ) (address cou
   }
 
 -- the ending of a verdict shows itself
-shown_by : (Due : Ending → Type 0) (Failed : List ℕ → Type 0) (graph : List ℕ) (v : Verdict) → Due (verdict_ending graph v) → IsShown Due Failed ⊥ (verdict_ending graph v)
-shown_by Due Failed graph Valid due = due
-shown_by Due Failed graph (Invalid broken) due = due
-shown_by Due Failed graph (NotBuilt site) due = due
+shown_by : (Due : Ending → Type 0) (Failed : List ℕ → Type 0) (v : Verdict) → Due (verdict_ending v) → IsShown Due Failed ⊥ (verdict_ending v)
+shown_by Due Failed Valid due = due
+shown_by Due Failed (Invalid broken) due = due
 
-pub verdict_shown : (Due : Ending → Type 0) (Failed : List ℕ → Type 0) (graph : List ℕ) (image : Image) (g : Graph) (e : Ending) → GivesVerdict graph image g e → Due e → IsShown Due Failed ⊥ e
-verdict_shown Due Failed graph image g e is due =
-    subst (IsShown Due Failed ⊥) (sym is.says) (shown_by Due Failed graph is.verdict (subst Due is.says due))
+pub verdict_shown : (Due : Ending → Type 0) (Failed : List ℕ → Type 0) (image : Image) (g : Graph) (e : Ending) → GivesVerdict image g e → Due e → IsShown Due Failed ⊥ e
+verdict_shown Due Failed image g e is due =
+    subst (IsShown Due Failed ⊥) (sym is.says) (shown_by Due Failed is.verdict (subst Due is.says due))
 
 -- and so does a listing
 pub listing_shown : (Due : Ending → Type 0) (Failed : List ℕ → Type 0) (image : Image) (count address : ℕ) (e : Ending) → GivesListing image count address e → Due e → IsShown Due Failed ⊥ e

@@ -36,7 +36,7 @@ module _ (files : Files) (err : Stream) (e : Ending) (five : status_of e ≡ 5) 
 
   says_faulted : (asked : Asked) → ComesTo Allows files.known asked e → SaysFaulted files err asked
   says_faulted (check file graph) came =
-      both_faulted (check file graph) file graph (inl refl) (GivesVerdict graph) (λ image g is. judged-not_4_5 graph is.verdict (inr (sym (ap status_of is.says) ∙ five))) came
+      both_faulted (check file graph) file graph (inl refl) GivesVerdict (λ image g is. judged-not_4_5 is.verdict (inr (sym (ap status_of is.says) ∙ five))) came
   says_faulted (report file graph) came =
       both_faulted (report file graph) file graph (inr refl) GivesReport (λ image g is. omega (arith, five, ap status_of is.says)) came
   says_faulted (show file address count) (bytes, all, inl refused) = absurd (omega (arith, five, ap status_of refused.says))
@@ -48,7 +48,7 @@ module _ (files : Files) (out err : Stream) (asked : Asked) (status : ℕ) (ends
 
   -- 5 only where the graph's text is refused, as the text says
   pub only_faulted : status ≡ 5 → SaysFaulted files err asked
-  only_faulted five = faulted_of five (answers files out err status asked (inr (inr (inr (inl five)))) ends)
+  only_faulted five = faulted_of five (answers files out err status asked (inr (inr (inr five))) ends)
 
 -- the refusal of a known text decides the ending
 fault_told : (known : List ℕ → Option (List ℕ)) (asked : Asked) (file graph : List ℕ) → TakesBoth asked file graph → (bytes text : List ℕ) (fault : GraphFault) → known file ≡ Some bytes → known graph ≡ Some text → executable_refusal bytes ≡ None → graph_refusal text ≡ Some fault → ComesTo Tells known asked (graph_refused graph fault)
@@ -58,7 +58,7 @@ fault_told known asked file graph takes bytes text fault file_is graph_is accept
     both Give = (bytes, file_is, inr (image_of bytes, record { accepted = accepted; loaded = refl }, (text, graph_is, inl (record { fault = fault; applies = applies; says = refl }))))
 
     by : TakesBoth asked file graph → ComesTo Tells known asked (graph_refused graph fault)
-    by (inl checks) = subst (λ (a : Asked). ComesTo Tells known a (graph_refused graph fault)) (sym checks) (both (GivesVerdict graph))
+    by (inl checks) = subst (λ (a : Asked). ComesTo Tells known a (graph_refused graph fault)) (sym checks) (both GivesVerdict)
     by (inr reports) = subst (λ (a : Asked). ComesTo Tells known a (graph_refused graph fault)) (sym reports) (both GivesReport)
 
 module _ (files : Files) (out err : Stream) (asked : Asked) (status : ℕ) (ends : Ends files out err (Some asked) status) where

@@ -2,7 +2,7 @@
 use Rattle.std.proofs.Common.{◌≡◌, ◌⊎◌, ◌↔◌, inl, inr, ℕ, List, [], true, false, refl, sym, ◌∙◌, ap, subst, Some, None, arith}
 use Rattle.std.specs.declared.option.Option.{Option}
 use Rattle.foxdec_commands.specs.Words.{Asked}
-use Rattle.foxdec_commands.specs.Ending.{Ending, printed, not_a_command, read_failed, file_refused, graph_refused, site_not_built, write_failed, out_of_memory, status_of}
+use Rattle.foxdec_commands.specs.Ending.{Ending, printed, not_a_command, read_failed, file_refused, graph_refused, write_failed, out_of_memory, status_of}
 use Rattle.foxdec_commands.specs.Outcome.{Tells, ComesTo, IsDue}
 use Rattle.foxdec_commands.specs.Outside.{Files, Stream, HasTrouble, Adds}
 use Rattle.foxdec_commands.specs.Guarantee.{IsShown, IsUnreadable, Gives, Ends, IsExcused, IsAnswered, IsSilent, GivesDue, SaysUnreadable, IsCutOff}
@@ -46,8 +46,7 @@ module _ (files : Files) (out err : Stream) (status : ℕ) where
   ways_at asked not_a_command c gives = absurd c
   ways_at asked (read_failed name) c gives = inr (inl (gives.status_is, record { name = name; unreadable = c; text = gives.text }))
   ways_at asked (file_refused name refusal) c gives = inl (inr (inr (inl gives.status_is)), record { ending = file_refused name refusal; due = c; gives = gives })
-  ways_at asked (graph_refused name fault) c gives = inl (inr (inr (inr (inl gives.status_is))), record { ending = graph_refused name fault; due = c; gives = gives })
-  ways_at asked (site_not_built name site) c gives = inl (inr (inr (inr (inr gives.status_is))), record { ending = site_not_built name site; due = c; gives = gives })
+  ways_at asked (graph_refused name fault) c gives = inl (inr (inr (inr gives.status_is)), record { ending = graph_refused name fault; due = c; gives = gives })
   ways_at asked (write_failed valid output taken) c gives =
       inr (inr (inl (gives.status_is, record { valid = valid; output = output; taken = taken; due = c.0; proper = c.1; front = gives.output; trouble = c.2; text = gives.text })))
   ways_at asked out_of_memory c gives = inr (inr (inr gives.status_is))
@@ -55,7 +54,7 @@ module _ (files : Files) (out err : Stream) (status : ℕ) where
   pub ways : (asked : Asked) → Ends files out err (Some asked) status → Ways asked
   ways asked ends = ways_at asked ends.ending ends.caused ends.gives
 
-  -- 0, 1, 4, 5 and 9 come with what is due
+  -- 0, 1, 4 and 5 come with what is due
   answers_in : (asked : Asked) → IsAnswered status → Ways asked → GivesDue files out err asked status
   answers_in asked answered (inl way) = way.1
   answers_in asked answered (inr (inl way)) = absurd (answered-not_3 status answered way.0)
@@ -126,7 +125,6 @@ module _ (files : Files) (out err : Stream) (status : ℕ) where
   silent_at (read_failed name) silent gives = nothing gives.output
   silent_at (file_refused name refusal) silent gives = nothing gives.output
   silent_at (graph_refused name fault) silent gives = nothing gives.output
-  silent_at (site_not_built name site) silent gives = nothing gives.output
   silent_at (write_failed valid output taken) silent gives = absurd (silent-not_6 status silent gives.status_is)
   silent_at out_of_memory silent gives = nothing gives.output
 

@@ -7,6 +7,7 @@ pub mod TextLemmas
 pub mod WordLemmas
 pub mod ListingLemmas
 pub mod GuaranteeLemmas
+pub mod ImageLemmas
 pub mod CheckLemmas
 pub mod FaultLemmas
 pub mod QuietLemmas

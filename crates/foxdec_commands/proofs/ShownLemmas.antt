@@ -2,7 +2,7 @@
 use Rattle.std.proofs.Common.{⊎_elim, ℕ, ◌<◌, List, length, Bool, sym, subst, Result, Ok, Err, IfErr, Some, None}
 use Rattle.std.specs.declared.option.Option.{Option}
 use Rattle.foxdec_commands.specs.Words.{Asked}
-use Rattle.foxdec_commands.specs.Ending.{Ending, printed, not_a_command, read_failed, file_refused, graph_refused, site_not_built, write_failed, out_of_memory}
+use Rattle.foxdec_commands.specs.Ending.{Ending, printed, not_a_command, read_failed, file_refused, graph_refused, write_failed, out_of_memory}
 use Rattle.foxdec_commands.specs.Outcome.{IsDue}
 use Rattle.foxdec_commands.specs.Outside.{Files}
 use Rattle.foxdec_commands.specs.Guarantee.{IsShown, IsUnreadable, IsCaused}
@@ -15,7 +15,6 @@ IsShown-map D E F G T U d f t not_a_command c = c
 IsShown-map D E F G T U d f t (read_failed name) c = f name c
 IsShown-map D E F G T U d f t (file_refused name refusal) c = d (file_refused name refusal) c
 IsShown-map D E F G T U d f t (graph_refused name fault) c = d (graph_refused name fault) c
-IsShown-map D E F G T U d f t (site_not_built name site) c = d (site_not_built name site) c
 IsShown-map D E F G T U d f t (write_failed valid output taken) c = (d (printed valid output) c.0, c.1, t c.2)
 IsShown-map D E F G T U d f t out_of_memory c = c
 

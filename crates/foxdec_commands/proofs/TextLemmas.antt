@@ -7,7 +7,7 @@ use Rattle.std.specs.List.{flat_map}
 use Rattle.std.specs.declared.option.Option.{Option}
 use Rattle.wire_io.specs.Sink.{Grows}
 use Rattle.foxdec_commands.specs.declared.ending.Refusal.{Refusal}
-use Rattle.foxdec_commands.specs.declared.ending.Refusal.TheVariants.{NotACommand, ReadFailed, FileRefused, GraphRefused, SiteNotBuilt, OutOfMemory}
+use Rattle.foxdec_commands.specs.declared.ending.Refusal.TheVariants.{NotACommand, ReadFailed, FileRefused, GraphRefused, OutOfMemory}
 use Rattle.foxdec_commands.specs.Ending.{output_of}
 use Rattle.foxdec_commands.specs.View.{refused_of}
 use Rattle.foxdec_commands.specs.Outside.{Says}
@@ -27,7 +27,6 @@ refused_silent known NotACommand = Grows-refl known
 refused_silent known (ReadFailed name) = Grows-refl known
 refused_silent known (FileRefused name refusal) = Grows-refl known
 refused_silent known (GraphRefused name fault) = Grows-refl known
-refused_silent known (SiteNotBuilt name site) = Grows-refl known
 refused_silent known OutOfMemory = Grows-refl known
 
 module _ {X : Type 0} (f : X → List ℕ) (xs : List X) (i : ℕ) (d : X) (at : i < length xs) where

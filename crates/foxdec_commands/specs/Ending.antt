@@ -6,6 +6,7 @@ use Rattle.foxdec_commands.specs.FileRefusal.{refusal_name, refusal_number}
 use Rattle.foxdec_commands.specs.declared.graph_fault.GraphFault.{GraphFault}
 use Rattle.foxdec_commands.specs.GraphFault.{fault_line, fault_name, fault_number}
 
+-- how a run ends
 pub data Ending : Type 0 where
   -- whether the graph is valid, and the output
   printed : Bool → List ℕ → Ending
@@ -17,8 +18,6 @@ pub data Ending : Type 0 where
   file_refused : List ℕ → FileRefusal → Ending
   -- the text of this name is refused as a graph's
   graph_refused : List ℕ → GraphFault → Ending
-  -- the graph of this name has a site, its address in digits, that is not checked today
-  site_not_built : List ℕ → List ℕ → Ending
   -- whether the graph is valid, the output, and how many bytes of it were written
   write_failed : Bool → List ℕ → ℕ → Ending
   -- memory ran out
@@ -32,7 +31,6 @@ status_of not_a_command = 2
 status_of (read_failed name) = 3
 status_of (file_refused name refusal) = 4
 status_of (graph_refused name fault) = 5
-status_of (site_not_built name site) = 9
 status_of (write_failed valid output taken) = 6
 status_of out_of_memory = 7
 
@@ -53,8 +51,6 @@ text_of (file_refused name refusal) =
 text_of (graph_refused name fault) =
     codes "foxdec: " ++ name ++ codes ": line " ++ decimal (fault_line fault) ++ codes ": "
     ++ fault_name fault ++ codes " (" ++ decimal (fault_number fault) ++ codes ")\n"
-text_of (site_not_built name site) =
-    codes "foxdec: " ++ name ++ codes ": site " ++ site ++ codes ": not built yet\n"
 text_of (write_failed valid output taken) =
     codes "foxdec: write failed after " ++ decimal taken ++ codes " bytes\n"
 text_of out_of_memory = codes "foxdec: out of memory\n"

@@ -12,7 +12,7 @@ use Rattle.foxdec_commands.specs.FileRefusal.{executable_refusal}
 use Rattle.foxdec_commands.specs.declared.graph_fault.GraphFault.{GraphFault}
 use Rattle.foxdec_commands.specs.GraphFault.{graph_refusal}
 use Rattle.foxdec_commands.specs.Words.{Asked, check, show, report, TakesBoth}
-use Rattle.foxdec_commands.specs.Ending.{Ending, printed, not_a_command, read_failed, file_refused, graph_refused, site_not_built, write_failed, out_of_memory, status_of, output_of, text_of}
+use Rattle.foxdec_commands.specs.Ending.{Ending, printed, not_a_command, read_failed, file_refused, graph_refused, write_failed, out_of_memory, status_of, output_of, text_of}
 use Rattle.foxdec_commands.specs.Listing.{IsListing}
 use Rattle.foxdec_commands.specs.Outcome.{Allows, IsExecutable, HasImage, IsGraphText, IsDue, Reads}
 use Rattle.foxdec_commands.specs.Outside.{Files, Stream, ReadFailed, HasTrouble, Adds, Says}
@@ -25,7 +25,6 @@ IsShown Due Failed Trouble not_a_command = ⊥
 IsShown Due Failed Trouble (read_failed name) = Failed name
 IsShown Due Failed Trouble (file_refused name refusal) = Due (file_refused name refusal)
 IsShown Due Failed Trouble (graph_refused name fault) = Due (graph_refused name fault)
-IsShown Due Failed Trouble (site_not_built name site) = Due (site_not_built name site)
 IsShown Due Failed Trouble (write_failed valid output taken) =
     Due (printed valid output) × (taken < length output) × Trouble
 IsShown Due Failed Trouble out_of_memory = Unit {0}
@@ -63,12 +62,12 @@ IsExcused files out asked status =
 -- a run of a command that gives what its files come to
 abbrev pub IsAnswered : ℕ → Type 0
 IsAnswered status =
-    (status ≡ 0) ⊎ (status ≡ 1) ⊎ (status ≡ 4) ⊎ (status ≡ 5) ⊎ (status ≡ 9)
+    (status ≡ 0) ⊎ (status ≡ 1) ⊎ (status ≡ 4) ⊎ (status ≡ 5)
 
 -- a run that writes nothing
 abbrev pub IsSilent : ℕ → Type 0
 IsSilent status =
-    (status ≡ 2) ⊎ (status ≡ 3) ⊎ (status ≡ 4) ⊎ (status ≡ 5) ⊎ (status ≡ 7) ⊎ (status ≡ 9)
+    (status ≡ 2) ⊎ (status ≡ 3) ⊎ (status ≡ 4) ⊎ (status ≡ 5) ⊎ (status ≡ 7)
 
 -- What the files come to was given.
 pub record GivesDue (files : Files) (out err : Stream) (asked : Asked) (status : ℕ) : Type 0 where

@@ -59,12 +59,11 @@ abbrev pub Takes : {X : Type 0} → (List ℕ → X → Type 0) → (List ℕ �
     → List ℕ → Type 0
 Takes {X = X} Form Refused Next bytes = Refused bytes ⊎ ((x : X) × Form bytes x × Next x)
 
--- The ending is that of the verdict on the graph of this name against the executable.
-pub record GivesVerdict (graph : List ℕ) (image : Image) (g : Graph) (ending : Ending)
-    : Type 0 where
+-- The ending is that of the verdict on the graph against the executable.
+pub record GivesVerdict (image : Image) (g : Graph) (ending : Ending) : Type 0 where
   pub verdict : Verdict
   pub is : IsVerdict image g verdict
-  pub says : ending ≡ verdict_ending graph verdict
+  pub says : ending ≡ verdict_ending verdict
 
 -- The ending prints the lines of at most so many instructions from an address on.
 pub record GivesListing (image : Image) (count address : ℕ) (ending : Ending) : Type 0 where
@@ -93,8 +92,7 @@ BothComeTo Of known file graph Give ending =
 -- the report of both; `show` takes an executable, and prints its instructions.
 abbrev pub ComesTo : (Option (List ℕ) → (List ℕ → Type 0) → Type 0)
     → (List ℕ → Option (List ℕ)) → Asked → Ending → Type 0
-ComesTo Of known (check file graph) ending =
-    BothComeTo Of known file graph (GivesVerdict graph) ending
+ComesTo Of known (check file graph) ending = BothComeTo Of known file graph GivesVerdict ending
 ComesTo Of known (report file graph) ending = BothComeTo Of known file graph GivesReport ending
 ComesTo Of known (show file address count) ending =
     Of (known file) (Takes IsExecutable (λ bytes. IsRefusedFile file bytes ending) (λ image.

@@ -3,10 +3,10 @@ use Rattle.std.specs.Prelude.{ℕ, true, false, List, ◌++◌, codes}
 use Rattle.std.specs.Fmt.{decimal}
 use Rattle.graph_verdict.specs.declared.verdict.Broken.{Broken}
 use Rattle.graph_verdict.specs.declared.verdict.Verdict.{Verdict}
-use Rattle.graph_verdict.specs.declared.verdict.Verdict.TheVariants.{Valid, Invalid, NotBuilt}
+use Rattle.graph_verdict.specs.declared.verdict.Verdict.TheVariants.{Valid, Invalid}
 use Rattle.graph_lines.specs.Text.{hex}
 use Rattle.graph_verdict.specs.Verdict.{rule_name}
-use Rattle.foxdec_commands.specs.Ending.{Ending, printed, site_not_built}
+use Rattle.foxdec_commands.specs.Ending.{Ending, printed}
 
 -- no rule is broken
 abbrev pub valid_line : List ℕ
@@ -19,8 +19,7 @@ invalid_line broken =
     ++ codes " " ++ decimal broken.vertex ++ codes " " ++ decimal broken.case
     ++ codes " " ++ rule_name broken.rule ++ codes "\n"
 
--- how a run ends with a verdict of the graph of this name
-abbrev pub verdict_ending : List ℕ → Verdict → Ending
-verdict_ending graph Valid = printed true valid_line
-verdict_ending graph (Invalid broken) = printed false (invalid_line broken)
-verdict_ending graph (NotBuilt site) = site_not_built graph (hex site)
+-- how a run ends with a verdict
+abbrev pub verdict_ending : Verdict → Ending
+verdict_ending Valid = printed true valid_line
+verdict_ending (Invalid broken) = printed false (invalid_line broken)

@@ -1,12 +1,12 @@
 -- The program's own types as plain data.
-use Rattle.std.specs.Prelude.{string_bytes, Result, Ok, Err}
+use Rattle.std.specs.Prelude.{Result, Ok, Err}
 use Rattle.foxdec_commands.specs.Words.{Asked, check, show, report}
-use Rattle.foxdec_commands.specs.Ending.{Ending, printed, not_a_command, read_failed, file_refused, graph_refused, site_not_built, out_of_memory}
+use Rattle.foxdec_commands.specs.Ending.{Ending, printed, not_a_command, read_failed, file_refused, graph_refused, out_of_memory}
 use Rattle.foxdec_commands.specs.declared.words.Request.{Request}
 use Rattle.foxdec_commands.specs.declared.words.Request.TheVariants.{Check, Show, Report}
 use Rattle.foxdec_commands.specs.declared.ending.Output.{Output}
 use Rattle.foxdec_commands.specs.declared.ending.Refusal.{Refusal}
-use Rattle.foxdec_commands.specs.declared.ending.Refusal.TheVariants.{NotACommand, ReadFailed, FileRefused, GraphRefused, SiteNotBuilt, OutOfMemory}
+use Rattle.foxdec_commands.specs.declared.ending.Refusal.TheVariants.{NotACommand, ReadFailed, FileRefused, GraphRefused, OutOfMemory}
 
 -- what a request asks for
 abbrev pub asked_of : Request → Asked
@@ -20,7 +20,6 @@ refused_of NotACommand = not_a_command
 refused_of (ReadFailed name) = read_failed name.now
 refused_of (FileRefused name refusal) = file_refused name.now refusal
 refused_of (GraphRefused name fault) = graph_refused name.now fault
-refused_of (SiteNotBuilt name site) = site_not_built name.now (string_bytes site)
 refused_of OutOfMemory = out_of_memory
 
 -- how a run ends with what a command gave, if it is written whole

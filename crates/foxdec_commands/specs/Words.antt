@@ -36,6 +36,7 @@ names_of words = None
 abbrev pub check_of : List (List ℕ) → Option Asked
 check_of words = option_map (λ names. check names.0 names.1) (names_of words)
 
+-- the same of `report`
 abbrev pub report_of : List (List ℕ) → Option Asked
 report_of words = option_map (λ names. report names.0 names.1) (names_of words)
 
@@ -63,6 +64,7 @@ address_of word = if nat_le (length word) 16 then number_of 16 word else None
 abbrev pub most_shown : ℕ
 most_shown = 65536
 
+-- a number, where so many may be shown
 abbrev pub parsed_in_range : ℕ → Option ℕ
 parsed_in_range n = if nat_le n most_shown then Some n else None
 

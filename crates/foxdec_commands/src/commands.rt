@@ -104,7 +104,7 @@ fn check<'a, S: Shelf>(
         Ok(g) => g,
         Err(refusal) => return Err(refusal),
     };
-    checked_output(alloc, graph, &image, &g)
+    checked_output(alloc, &image, &g)
 }
 
 // The report of a graph of an executable. It judges nothing.
@@ -215,17 +215,12 @@ fn graph_of<'a>(alloc: Global, name: &'a str, bytes: &[u8]) -> Result<Graph, Ref
 }
 
 // The output of `check`, or why there is none.
-fn checked_output<'a>(
-    alloc: Global,
-    graph: &'a str,
-    image: &Image,
-    g: &Graph,
-) -> Result<Output, Refusal<'a>>
+fn checked_output<'a>(alloc: Global, image: &Image, g: &Graph) -> Result<Output, Refusal<'a>>
     requires { IsWellFormed g.now }
-    ensures { IsOrMemory (GivesVerdict graph.now image.now g.now) (ending_of result) }
+    ensures { IsOrMemory (GivesVerdict image.now g.now) (ending_of result) }
 {
     match edge_checker::check(alloc, image, g, None) {
-        Ok(verdict) => conclude(alloc, graph, verdict),
+        Ok(verdict) => conclude(alloc, verdict),
         Err(_) => Err(Refusal::OutOfMemory),
     }
 }

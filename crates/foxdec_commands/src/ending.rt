@@ -2,7 +2,7 @@
 ghost use Rattle.std.specs.Prelude.{◌≡◌, ◌++◌, codes};
 ghost use Rattle.std.specs.Fmt.{decimal};
 ghost use Rattle.std.specs.List.{flat_map};
-ghost use Rattle.foxdec_commands.specs.Ending.{file_refused, graph_refused, site_not_built, out_of_memory, status_of, text_of};
+ghost use Rattle.foxdec_commands.specs.Ending.{file_refused, graph_refused, out_of_memory, status_of, text_of};
 ghost use Rattle.foxdec_commands.specs.Outside.{stream_of, Says};
 ghost use Rattle.foxdec_commands.specs.View.{refused_of};
 
@@ -25,8 +25,6 @@ pub enum Refusal<'a> {
     ReadFailed(&'a str),
     FileRefused(&'a str, FileRefusal),
     GraphRefused(&'a str, GraphFault),
-    /// With the digits of the site's address.
-    SiteNotBuilt(&'a str, String),
     OutOfMemory,
 }
 
@@ -39,7 +37,6 @@ impl Refusal<'_> {
             Refusal::ReadFailed(_) => 3,
             Refusal::FileRefused(_, _) => 4,
             Refusal::GraphRefused(_, _) => 5,
-            Refusal::SiteNotBuilt(_, _) => 9,
             Refusal::OutOfMemory => 7,
         }
     }
@@ -57,7 +54,6 @@ pub fn say_refusal<E: Sink>(err: &mut E, refusal: &Refusal<'_>)
         }
         Refusal::FileRefused(name, refusal) => say_file_refused(err, name.as_bytes(), *refusal),
         Refusal::GraphRefused(name, fault) => say_graph_refused(err, name.as_bytes(), *fault),
-        Refusal::SiteNotBuilt(name, site) => say_site(err, name.as_bytes(), site.as_bytes()),
         Refusal::OutOfMemory => put_pieces(err, &[b"foxdec: out of memory\n"]),
     }
 }
@@ -135,17 +131,6 @@ fn say_line<'b, E: Sink>(
             number,
             b")\n",
         ],
-    );
-}
-
-// Says which site of a graph is not built.
-fn say_site<'b, E: Sink>(err: &mut E, name: &'b [u8], site: &'b [u8])
-    ensures { Says (stream_of ⟦<E as Sink>⟧ err.old err.new)
-        (text_of (site_not_built name.now site.now)) }
-{
-    put_pieces(
-        err,
-        &[b"foxdec: ", name, b": site ", site, b": not built yet\n"],
     );
 }
 

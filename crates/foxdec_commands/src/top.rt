@@ -5,7 +5,7 @@ ghost use Rattle.elf_image.specs.declared.image.Image.{Image as PlainImage};
 ghost use Rattle.graph_verdict.specs.declared.verdict.Broken.{Broken};
 ghost use Rattle.graph_data.specs.declared.graph.Graph.{Graph as PlainGraph};
 ghost use Rattle.graph_runs.specs.World.{HasSafeRuns};
-ghost use Rattle.graph_rules.specs.Rules.{IsValid};
+ghost use Rattle.edge_checker.specs.Laws.{IsValid};
 ghost use Rattle.report.specs.Text.{IsReport};
 ghost use Rattle.foxdec_commands.specs.Words.{Asked, Requests, TakesBoth, check, show, report, request_of};
 ghost use Rattle.foxdec_commands.specs.Ending.{Ending, file_refused, graph_refused, output_of, text_of};
@@ -82,9 +82,8 @@ fn run<S: Shelf, O: Sink, E: Sink>(
 ///   `TooLong (8)` where GRAPH has more bytes than are read.
 /// - 6: `out` failed or took nothing, before the last byte of the line.
 /// - 7: memory ran out.
-/// - 9: a site of the graph is not built yet; the text names the first one by its address.
 ///
-/// At 2, 3, 4, 5, 6, 7 and 9 a line on `err` says so, and of which file. A failure of `err` changes
+/// At 2, 3, 4, 5, 6 and 7 a line on `err` says so, and of which file. A failure of `err` changes
 /// no status.
 pub fn foxdec<S: Shelf, O: Sink, E: Sink>(
     alloc: Global,
@@ -138,12 +137,12 @@ pub fn foxdec<S: Shelf, O: Sink, E: Sink>(
         IsCutOff (files_of ⟦<S as Shelf>⟧ shelf.old shelf.new)
         (stream_of ⟦<O as Sink>⟧ out.old out.new)
         (stream_of ⟦<E as Sink>⟧ err.old err.new) asked }
-    // 0, 1, 4, 5 and 9 only with the output and the text that the files come to.
+    // 0, 1, 4 and 5 only with the output and the text that the files come to.
     ensures answered { (asked : Asked) → Requests words.now asked → IsAnswered result →
         GivesDue (files_of ⟦<S as Shelf>⟧ shelf.old shelf.new)
         (stream_of ⟦<O as Sink>⟧ out.old out.new)
         (stream_of ⟦<E as Sink>⟧ err.old err.new) asked result }
-    // At 2, 3, 4, 5, 7 and 9 nothing is written to `out`.
+    // At 2, 3, 4, 5 and 7 nothing is written to `out`.
     ensures silent { IsSilent result → O.written out.new ≡ O.written out.old }
 
     // What known files decide is given, unless a read or `out` failed or memory ran out.

@@ -11,8 +11,8 @@ use graph_verdict::{Broken, Verdict};
 use std::alloc::{AllocError, Global};
 
 /// The output of a verdict, or why there is none.
-pub fn conclude<'a>(alloc: Global, graph: &'a str, verdict: Verdict) -> Result<Output, Refusal<'a>>
-    ensures { IsOrMemory (λ e. e ≡ verdict_ending graph.now verdict) (ending_of result) }
+pub fn conclude<'a>(alloc: Global, verdict: Verdict) -> Result<Output, Refusal<'a>>
+    ensures { IsOrMemory (λ e. e ≡ verdict_ending verdict) (ending_of result) }
 {
     match verdict {
         Verdict::Valid => match Vec::from_slice(alloc, b"valid\n") {
@@ -24,10 +24,6 @@ pub fn conclude<'a>(alloc: Global, graph: &'a str, verdict: Verdict) -> Result<O
                 valid: false,
                 bytes: line.into_bytes(),
             }),
-            Err(_) => Err(Refusal::OutOfMemory),
-        },
-        Verdict::NotBuilt { site } => match hex_digits(alloc, site) {
-            Ok(digits) => Err(Refusal::SiteNotBuilt(graph, digits)),
             Err(_) => Err(Refusal::OutOfMemory),
         },
     }

@@ -18,6 +18,7 @@ pub struct FileShelf<'a, R: Files> {
     open: Option<OpenFile<R::File>>,
     piece: Vec<u8>,
     faults: u64,
+    starved: bool,
 }
 
 impl<'a, R: Files> FileShelf<'a, R> {
@@ -30,7 +31,15 @@ impl<'a, R: Files> FileShelf<'a, R> {
             open: None,
             piece: vec![in alloc; 0; PIECE]?,
             faults: 0,
+            starved: false,
         })
+    }
+
+    /// Whether a read failed for want of memory.
+    pub fn is_starved(&self) -> bool
+        ensures { result ≡ self.now.starved }
+    {
+        self.starved
     }
 }
 
@@ -55,8 +64,9 @@ impl<R: Files> Shelf for FileShelf<'_, R> {
                 into[..count].copy_from_slice(&self.piece[..count]);
                 Ok(count as u64)
             }
-            Err(_) => {
+            Err(error) => {
                 self.faults = self.faults.saturating_add(1);
+                self.starved = self.starved || error.kind() == io::ErrorKind::OutOfMemory;
                 Err(Failed)
             }
         }

@@ -7,10 +7,10 @@ mod adapters;
 use adapters::{FileShelf, StreamSink};
 use foxdec_commands::{foxdec, say_out_of_memory};
 use std::alloc::AllocError;
-use std::env;
 use std::process::ExitCode;
 use std::rt::{Env, Files};
-use wire_io::Sink;
+use std::{env, io};
+use wire_io::{QuietSink, Sink, put_all};
 
 fn main(rt: HostRuntime) -> ExitCode {
     let mut out = StreamSink::new(rt.stdout());
@@ -21,23 +21,38 @@ fn main(rt: HostRuntime) -> ExitCode {
     }
 }
 
-// Runs the program over the system's files.
+// Runs the program over the system's files. Its text is kept until it is known that the system had memory for the names of the
+// files.
 fn start<R: Env + Files + AllocGlobal, O: Sink, E: Sink>(
     rt: &R,
     out: &mut O,
     err: &mut E,
 ) -> Result<u8, AllocError> {
     let words = words_of(rt)?;
+    let mut text = QuietSink::new(rt.alloc(), text_room(&words)).map_err(|_| AllocError)?;
     let mut shelf = FileShelf::new(rt.alloc(), rt)?;
-    Ok(foxdec(rt.alloc(), &words, &mut shelf, out, err))
+    let status = foxdec(rt.alloc(), &words, &mut shelf, out, &mut text);
+    if shelf.is_starved() {
+        return Err(AllocError);
+    }
+    let _ = put_all(err, text.bytes());
+    Ok(status)
+}
+
+// The bytes of the longest text: a name, and what is said of it.
+fn text_room(words: &[String]) -> u64 {
+    let longest = words.iter().map(|word| word.len()).max().unwrap_or(0);
+    (longest as u64).saturating_add(256)
 }
 
 // The words after the program's name. There are none where one of them is no text, which makes no
 // command.
 fn words_of<R: Env + AllocGlobal>(rt: &R) -> Result<Vec<String>, AllocError> {
     let mut words = Vec::new(rt.alloc());
-    let Ok(args) = env::args(rt) else {
-        return Ok(words);
+    let args = match env::args(rt) {
+        Ok(args) => args,
+        Err(error) if error.kind() == io::ErrorKind::OutOfMemory => return Err(AllocError),
+        Err(_) => return Ok(words),
     };
     for word in args.skip(1) {
         words.push(word)?;

@@ -117,89 +117,92 @@ fn move_lines(alloc: Global, first: &str, edge: &str, second: &str) -> Result<St
     Ok(lines)
 }
 
-// One graph that is valid, and one for each rule, which breaks it alone.
+// What the first site says, its edge, the second site, and the line that is printed: graphs that are valid, and such as break
+// one rule alone.
+static RULES: [(&str, &str, &str, &str); 13] = [
+    (FIRST, EDGE, SECOND, "valid\n"),
+    (
+        FIRST,
+        EDGE,
+        "s 400082 ret\nv 0\nr rax=?\nc [rsp0;8]=ra",
+        "valid\n",
+    ),
+    (
+        "r rax=0\nc [rsp0;8]=ra",
+        EDGE,
+        SECOND,
+        "invalid 400078 400078 0 0 entry\n",
+    ),
+    (
+        "r rax=?\nc [rsp0;8]=ra",
+        EDGE,
+        SECOND,
+        "invalid 400078 400078 0 0 entry\n",
+    ),
+    (
+        FIRST,
+        EDGE,
+        "s 400082 step\nv 0\nr rax=-1\nc [rsp0;8]=ra\n> 400083:0",
+        "invalid 400078 400082 0 0 kind\n",
+    ),
+    (
+        FIRST,
+        EDGE,
+        "s 400082 ret\nv 0\nr rax=-1 rbx=?\nc [rsp0;8]=ra",
+        "invalid 400078 400082 0 0 return\n",
+    ),
+    (
+        FIRST,
+        EDGE,
+        "s 400082 ret\nv 0\nr rax=-1 rsp=?\nc [rsp0;8]=ra",
+        "invalid 400078 400082 0 0 return\n",
+    ),
+    (
+        FIRST,
+        EDGE,
+        "s 400082 ret\nv 0\nr rax=-1",
+        "invalid 400078 400082 0 0 return\n",
+    ),
+    (
+        FIRST,
+        "> 400081:0",
+        SECOND,
+        "invalid 400078 400078 0 0 address\n",
+    ),
+    (
+        FIRST,
+        "> 400082:1",
+        SECOND,
+        "invalid 400078 400078 0 0 vertex\n",
+    ),
+    (
+        FIRST,
+        EDGE,
+        "s 400082 ret\nv 0\nr rax=-2\nc [rsp0;8]=ra",
+        "invalid 400078 400078 0 0 register\n",
+    ),
+    (
+        FIRST,
+        EDGE,
+        "s 400082 ret\nv 0\nc [rsp0;8]=ra",
+        "invalid 400078 400078 0 0 register\n",
+    ),
+    (
+        FIRST,
+        EDGE,
+        "s 400082 ret\nv 0\nr rax=-1\nc [rsp0;8]=rdi0",
+        "invalid 400078 400078 0 0 cell\n",
+    ),
+];
+
 #[test]
 fn names_the_rule_that_is_broken(rt: HostRuntime) -> Result<(), Fail> {
     let alloc = rt.alloc();
-    for (first, edge, second, out) in [
-        (FIRST, EDGE, SECOND, "valid\n"),
-        (
-            FIRST,
-            EDGE,
-            "s 400082 ret\nv 0\nr rax=?\nc [rsp0;8]=ra",
-            "valid\n",
-        ),
-        (
-            "r rax=0\nc [rsp0;8]=ra",
-            EDGE,
-            SECOND,
-            "invalid 400078 400078 0 0 entry\n",
-        ),
-        (
-            "r rax=?\nc [rsp0;8]=ra",
-            EDGE,
-            SECOND,
-            "invalid 400078 400078 0 0 entry\n",
-        ),
-        (
-            FIRST,
-            EDGE,
-            "s 400082 step\nv 0\nr rax=-1\nc [rsp0;8]=ra\n> 400083:0",
-            "invalid 400078 400082 0 0 kind\n",
-        ),
-        (
-            FIRST,
-            EDGE,
-            "s 400082 ret\nv 0\nr rax=-1 rbx=?\nc [rsp0;8]=ra",
-            "invalid 400078 400082 0 0 return\n",
-        ),
-        (
-            FIRST,
-            EDGE,
-            "s 400082 ret\nv 0\nr rax=-1 rsp=?\nc [rsp0;8]=ra",
-            "invalid 400078 400082 0 0 return\n",
-        ),
-        (
-            FIRST,
-            EDGE,
-            "s 400082 ret\nv 0\nr rax=-1",
-            "invalid 400078 400082 0 0 return\n",
-        ),
-        (
-            FIRST,
-            "> 400081:0",
-            SECOND,
-            "invalid 400078 400078 0 0 address\n",
-        ),
-        (
-            FIRST,
-            "> 400082:1",
-            SECOND,
-            "invalid 400078 400078 0 0 vertex\n",
-        ),
-        (
-            FIRST,
-            EDGE,
-            "s 400082 ret\nv 0\nr rax=-2\nc [rsp0;8]=ra",
-            "invalid 400078 400078 0 0 register\n",
-        ),
-        (
-            FIRST,
-            EDGE,
-            "s 400082 ret\nv 0\nc [rsp0;8]=ra",
-            "invalid 400078 400078 0 0 register\n",
-        ),
-        (
-            FIRST,
-            EDGE,
-            "s 400082 ret\nv 0\nr rax=-1\nc [rsp0;8]=rdi0",
-            "invalid 400078 400078 0 0 cell\n",
-        ),
-    ] {
+    for (first, edge, second, out) in &RULES {
         let lines = move_lines(alloc, first, edge, second)?;
         let run = check(alloc, MOVE_RET, lines.as_str())?;
-        assert_eq!(rt; run.out.as_slice(), out.as_bytes(), "{second}");
-        assert_eq!(rt; run.status, u8::from(out != "valid\n"));
+        assert_eq!(rt; run.out.as_slice(), out.as_bytes(), "the output");
+        assert_eq!(rt; run.status, u8::from(*out != "valid\n"), "the status");
         assert_eq!(rt; run.err.len(), 0, "there is no text");
     }
     Ok(())
@@ -223,9 +226,9 @@ fn a_nop_goes_on_and_a_return_stands_alone(rt: HostRuntime) -> Result<(), Fail> 
         ),
     ] {
         let run = check(rt.alloc(), code, lines)?;
-        assert_eq!(rt; run.status, status, "the status for {out}");
-        assert_eq!(rt; run.out.as_slice(), out.as_bytes(), "the output for {out}");
-        assert_eq!(rt; run.err.len(), 0, "the text for {out}");
+        assert_eq!(rt; run.status, status, "the status");
+        assert_eq!(rt; run.out.as_slice(), out.as_bytes(), "the output");
+        assert_eq!(rt; run.err.len(), 0, "the text");
     }
     Ok(())
 }
@@ -309,40 +312,132 @@ fn names_the_first_faulty_line_of_a_text(rt: HostRuntime) -> Result<(), Fail> {
         let files = files(alloc, executable(alloc, PUSH_POP)?, text)?;
         let run = run(alloc, "check a g", files, Vec::new(alloc), Vec::new(alloc))?;
         assert_eq!(rt; run.err.as_slice(), err.as_bytes(), "the text");
-        assert_eq!(rt; run.status, 5, "the status with {err}");
-        assert_eq!(rt; run.out.len(), 0, "the output with {err}");
+        assert_eq!(rt; run.status, 5, "the status");
+        assert_eq!(rt; run.out.len(), 0, "the output");
     }
     Ok(())
 }
 
+// The code of a call of the last of two returns (Intel SDM volume 2, CALL: E8 cd), of `cmp edi, 1` before a return (CMP: 83 /7
+// ib), of a system call before one (SYSCALL), and of `test edi, edi; jz` to the next instruction, a return (TEST, Jcc).
+const CALL: &[u8] = b"\xe8\x01\0\0\0\xc3\xc3";
+
+const COMPARE: &[u8] = b"\x83\xff\x01\xc3";
+
+const SYSTEM_CALL: &[u8] = b"\x0f\x05\xc3";
+
+const BRANCH: &[u8] = b"\x85\xff\x74\0\xc3";
+
+// What is known after the call, and the function that is called.
+const CALLED: &str = "v 0\nc [rsp0;8]=ra\n> 40007d:0\n\
+s 40007d ret\nv 0\nr rax=? rcx=? rdx=? rsi=? rdi=? r8=? r9=? r10=? r11=?\nc [rsp0;8]=ra\n\
+f 40007e 65536 4096\ns 40007e ret\nv 0\nc [rsp0;8]=ra\n";
+
+// What is known before the comparison, and behind it but for its flags and bounds.
+const COMPARED: &str = "s 400078 step\nv 0\nc [rsp0;8]=ra\n> 40007b:0\ns 40007b ret\nv 0\n";
+
+// Graphs of other instructions, each with its verdict.
+static JUDGED: [(&[u8], &str, &str, &str); 15] = [
+    (
+        PUSH_POP,
+        "s 400078 step\nv 0\nc [rsp0;8]=ra\n> 400079:0\n\
+s 400079 step\nv 0\nr rsp=rsp0-8\nc [rsp0;8]=ra\nc [rsp0-8;8]=rbx0\n> 40007a:0\n",
+        "s 40007a ret\nv 0\nc [rsp0;8]=ra\nc [rsp0-8;8]=rbx0\n",
+        "valid\n",
+    ),
+    (b"\xf4", RET, "", "invalid 400078 400078 0 0 kind\n"),
+    (
+        MOVE_RET,
+        "s 400078 step\nv 0\nc [rsp0;8]=ra\n> 400082:0 400083:0\n",
+        "s 400082 ret\nv 0\nr rax=-1\nc [rsp0;8]=ra\n",
+        "invalid 400078 400078 0 0 cases\n",
+    ),
+    (
+        CALL,
+        "s 400078 call 40007e\nk [rsp0;8]\n",
+        CALLED,
+        "valid\n",
+    ),
+    (
+        CALL,
+        "s 400078 call 40007f\nk [rsp0;8]\n",
+        CALLED,
+        "invalid 400078 400078 0 0 callee\n",
+    ),
+    (
+        CALL,
+        "s 400078 call 400078\nk [rsp0;8]\n",
+        CALLED,
+        "invalid 400078 400078 0 0 target\n",
+    ),
+    (
+        CALL,
+        "s 400078 call 40007e\nk [rsp0;8]\nk [rsp0-16;8]\n",
+        CALLED,
+        "invalid 400078 400078 0 0 keep\n",
+    ),
+    (
+        CALL,
+        "s 400078 call 40007e\np [rsp0;8] [rsp0-8;8]\nk [rsp0;8]\n",
+        CALLED,
+        "invalid 400078 400078 0 0 decided\n",
+    ),
+    (
+        CALL,
+        "s 400078 call 40007e\n",
+        CALLED,
+        "invalid 400078 400078 0 0 cell\n",
+    ),
+    (
+        b"\x90\xc3",
+        "s 400078 step\ng [rsi0;8] [rdi0;8]\nv 0\nc [rsp0;8]=ra\n> 400079:0 400079:0 400079:0\n",
+        "s 400079 ret\nv 0\nc [rsp0;8]=ra\n",
+        "invalid 400078 400078 0 0 fork\n",
+    ),
+    (
+        COMPARE,
+        COMPARED,
+        "z 32 zx32(rdi0) 1\nc [rsp0;8]=ra\n",
+        "valid\n",
+    ),
+    (
+        COMPARE,
+        COMPARED,
+        "z 32 zx32(rdi0) 2\nc [rsp0;8]=ra\n",
+        "invalid 400078 400078 0 0 flags\n",
+    ),
+    (
+        COMPARE,
+        COMPARED,
+        "b rdi0 0..3\nc [rsp0;8]=ra\n",
+        "invalid 400078 400078 0 0 bound\n",
+    ),
+    (
+        SYSTEM_CALL,
+        "s 400078 outside\nk [rsp0;8]\nv 0\nc [rsp0;8]=ra\n> 40007a:0\n",
+        "s 40007a ret\nv 0\nr rax=v400078 rcx=? r11=?\nc [rsp0;8]=ra\n",
+        "valid\n",
+    ),
+    (
+        BRANCH,
+        "s 400078 step\nv 0\nc [rsp0;8]=ra\n> 40007a:0\n\
+s 40007a step\nv 0\nz 32 zx32(rdi0) 0\nc [rsp0;8]=ra\n> 40007c:0 40007c:1\n",
+        "s 40007c ret\nv 0\nb zx32(rdi0) 0..0\nc [rsp0;8]=ra\n\
+v 1\nb zx32(rdi0) 1..0xffffffff\nc [rsp0;8]=ra\n",
+        "valid\n",
+    ),
+];
+
 #[test]
-fn says_which_site_is_not_built_yet(rt: HostRuntime) -> Result<(), Fail> {
-    for (code, lines, err) in [
-        (
-            PUSH_POP,
-            "s 400078 step\nv 0\nc [rsp0;8]=ra\n> 400079:0\n\
-s 400079 step\nv 0\nr rsp=rsp0-8\nc [rsp0;8]=ra\nc [rsp0-8;8]=rbx0\n> 40007a:0\n\
-s 40007a ret\nv 0\nc [rsp0;8]=ra\nc [rsp0-8;8]=rbx0\n",
-            "foxdec: g: site 400078: not built yet\n",
-        ),
-        (b"\xf4", RET, "foxdec: g: site 400078: not built yet\n"),
-        (
-            MOVE_RET,
-            "s 400078 step\nv 0\nr rax=0\nc [rsp0;8]=ra\n> 400082:0\n\
-s 400082 ret\nv 0\nr rax=fs\nc [rsp0;8]=ra\n",
-            "foxdec: g: site 400082: not built yet\n",
-        ),
-        (
-            MOVE_RET,
-            "s 400078 step\nv 0\nc [rsp0;8]=ra\n> 400082:0 400083:0\n\
-s 400082 ret\nv 0\nr rax=-1\nc [rsp0;8]=ra\n",
-            "foxdec: g: site 400078: not built yet\n",
-        ),
-    ] {
-        let run = check(rt.alloc(), code, lines)?;
-        assert_eq!(rt; run.status, 9, "the status with {err}");
-        assert_eq!(rt; run.out.len(), 0, "the output with {err}");
-        assert_eq!(rt; run.err.as_slice(), err.as_bytes(), "the text");
+fn judges_calls_pairs_comparisons_and_branches(rt: HostRuntime) -> Result<(), Fail> {
+    let alloc = rt.alloc();
+    for (code, first, second, out) in JUDGED {
+        let mut lines = String::from_str(alloc, first)?;
+        lines.push_str(second)?;
+        let run = check(alloc, code, lines.as_str())?;
+        assert_eq!(rt; run.out.as_slice(), out.as_bytes(), "the output");
+        assert_eq!(rt; run.status, u8::from(out != "valid\n"), "the status");
+        assert_eq!(rt; run.err.len(), 0, "there is no text");
     }
     Ok(())
 }
@@ -357,44 +452,47 @@ fn changed(alloc: Global, at: usize, byte: u8, len: usize) -> Result<Vec<u8>, No
     Ok(file)
 }
 
-// The places and the meanings of the bytes are those of ELF-64: p_filesz at 96, e_type at 16.
+// The words, a byte of the executable that is changed, its length, and what is said of it. The places and the meanings of the
+// bytes are those of ELF-64: p_filesz at 96, e_type at 16.
+static NO_EXECUTABLES: [(&str, usize, u8, usize, &str); 4] = [
+    (
+        "check a g",
+        0,
+        0x7f,
+        63,
+        "foxdec: a: executable refused: TooShort (1)\n",
+    ),
+    (
+        "show a 400078 1",
+        0,
+        0x7f,
+        63,
+        "foxdec: a: executable refused: TooShort (1)\n",
+    ),
+    (
+        "show a 400078 1",
+        96,
+        122,
+        121,
+        "foxdec: a: executable refused: SegmentOutside (12)\n",
+    ),
+    (
+        "show a 400078 1",
+        16,
+        3,
+        121,
+        "foxdec: a: executable refused: NotExec (6)\n",
+    ),
+];
+
 #[test]
 fn names_why_a_file_is_no_executable(rt: HostRuntime) -> Result<(), Fail> {
     let alloc = rt.alloc();
-    for (line, at, byte, len, err) in [
-        (
-            "check a g",
-            0,
-            0x7f,
-            63,
-            "foxdec: a: executable refused: TooShort (1)\n",
-        ),
-        (
-            "show a 400078 1",
-            0,
-            0x7f,
-            63,
-            "foxdec: a: executable refused: TooShort (1)\n",
-        ),
-        (
-            "show a 400078 1",
-            96,
-            122,
-            121,
-            "foxdec: a: executable refused: SegmentOutside (12)\n",
-        ),
-        (
-            "show a 400078 1",
-            16,
-            3,
-            121,
-            "foxdec: a: executable refused: NotExec (6)\n",
-        ),
-    ] {
+    for (line, at, byte, len, err) in NO_EXECUTABLES {
         let files = files(alloc, changed(alloc, at, byte, len)?, graph(alloc, RET)?)?;
         let run = run(alloc, line, files, Vec::new(alloc), Vec::new(alloc))?;
-        assert_eq!(rt; run.status, 4, "the status with {err}");
-        assert_eq!(rt; run.out.len(), 0, "the output with {err}");
+        assert_eq!(rt; run.status, 4, "the status");
+        assert_eq!(rt; run.out.len(), 0, "there is no output");
         assert_eq!(rt; run.err.as_slice(), err.as_bytes(), "the text");
     }
     Ok(())
@@ -414,48 +512,50 @@ fn show(alloc: Global, numbers: &str, code: &[u8]) -> Result<Given, NoMemory> {
     )
 }
 
-// The encodings and their meanings are those of Intel SDM volume 2.
+// The address and the count, the code, and what is printed. The encodings and their meanings are those of Intel SDM volume 2.
+static SHOWN: [(&str, &[u8], &str); 9] = [
+    (
+        "400078 1",
+        b"\x67\xe8\x03\0\0\0",
+        "400078 67e803000000 call 0x400081\n",
+    ),
+    (
+        "400078 1",
+        b"\x66\x2e\x0f\x1f\x84\0\0\0\0\0",
+        "400078 662e0f1f840000000000 nop\n",
+    ),
+    (
+        "400078 1",
+        b"\x64\x48\x8b\x04\x25\x28\0\0\0",
+        "400078 64488b042528000000 mov rax, qword [fs:40]\n",
+    ),
+    ("400078 1", b"\xf0\x01\x07", "400078 none\n"),
+    (
+        "400078 2",
+        b"\x66\x66\x66\x66\x66\x66\x66\x66\x66\x66\x66\x66\x66\x66\x90",
+        "400078 666666666666666666666666666690 nop\n400087 none\n",
+    ),
+    (
+        "400078 2",
+        b"\x66\x66\x66\x66\x66\x66\x66\x66\x66\x66\x66\x66\x66\x66\x66\x90",
+        "400078 none\n",
+    ),
+    (
+        "0000000000400078 65536",
+        b"\x90\xf2\xc3",
+        "400078 90 nop\n400079 f2c3 ret\n40007b none\n",
+    ),
+    ("FFFFFFFFFFFFFFFF 1", b"\xc3", "ffffffffffffffff none\n"),
+    ("f 1", b"\xc3", "f none\n"),
+];
+
 #[test]
 fn shows_the_instructions_from_an_address_on(rt: HostRuntime) -> Result<(), Fail> {
-    for (numbers, code, out) in [
-        (
-            "400078 1",
-            b"\x67\xe8\x03\0\0\0".as_slice(),
-            "400078 67e803000000 call 0x400081\n",
-        ),
-        (
-            "400078 1",
-            b"\x66\x2e\x0f\x1f\x84\0\0\0\0\0",
-            "400078 662e0f1f840000000000 nop\n",
-        ),
-        (
-            "400078 1",
-            b"\x64\x48\x8b\x04\x25\x28\0\0\0",
-            "400078 64488b042528000000 mov rax, qword [fs:40]\n",
-        ),
-        ("400078 1", b"\xf0\x01\x07", "400078 none\n"),
-        (
-            "400078 2",
-            b"\x66\x66\x66\x66\x66\x66\x66\x66\x66\x66\x66\x66\x66\x66\x90",
-            "400078 666666666666666666666666666690 nop\n400087 none\n",
-        ),
-        (
-            "400078 2",
-            b"\x66\x66\x66\x66\x66\x66\x66\x66\x66\x66\x66\x66\x66\x66\x66\x90",
-            "400078 none\n",
-        ),
-        (
-            "0000000000400078 65536",
-            b"\x90\xf2\xc3",
-            "400078 90 nop\n400079 f2c3 ret\n40007b none\n",
-        ),
-        ("FFFFFFFFFFFFFFFF 1", b"\xc3", "ffffffffffffffff none\n"),
-        ("f 1", b"\xc3", "f none\n"),
-    ] {
+    for (numbers, code, out) in &SHOWN {
         let run = show(rt.alloc(), numbers, code)?;
-        assert_eq!(rt; run.status, 0, "the status for {out}");
-        assert_eq!(rt; run.out.as_slice(), out.as_bytes(), "the output for {out}");
-        assert_eq!(rt; run.err.len(), 0, "the text for {out}");
+        assert_eq!(rt; run.status, 0, "the status");
+        assert_eq!(rt; run.out.as_slice(), out.as_bytes(), "the output");
+        assert_eq!(rt; run.err.len(), 0, "there is no text");
     }
     Ok(())
 }
@@ -479,12 +579,12 @@ fn words_that_are_no_command_read_nothing(rt: HostRuntime) -> Result<(), Fail> {
             [0].to_vec(alloc)?,
             Vec::new(alloc),
         )?;
-        assert_eq!(rt; run.status, 2, "{line}");
-        assert_eq!(rt; run.out.len(), 0, "{line}");
+        assert_eq!(rt; run.status, 2, "words that are no command");
+        assert_eq!(rt; run.out.len(), 0, "words that are no command");
         assert_eq!(rt;
             run.err.as_slice(),
             b"foxdec: the words are not a command\n".as_slice(),
-            "{line}"
+            "words that are no command"
         );
     }
     Ok(())
@@ -506,8 +606,8 @@ fn a_read_or_a_write_fails_in_mid_stream(rt: HostRuntime) -> Result<(), Fail> {
             [failing].to_vec(alloc)?,
             [failing_out].to_vec(alloc)?,
         )?;
-        assert_eq!(rt; run.status, status, "the status with {err}");
-        assert_eq!(rt; run.out.as_slice(), out.as_bytes(), "the output with {err}");
+        assert_eq!(rt; run.status, status, "the status");
+        assert_eq!(rt; run.out.as_slice(), out.as_bytes(), "the output");
         assert_eq!(rt; run.err.as_slice(), err.as_bytes(), "the text");
     }
     Ok(())
@@ -526,9 +626,9 @@ fn a_quiet_stream_takes_the_line_where_it_has_room(rt: HostRuntime) -> Result<()
         let mut stream = QuietSink::new(alloc, room)?;
         let mut err = QuietSink::new(alloc, 100)?;
         let got = foxdec_quiet(alloc, &words, &mut shelf, &mut stream, &mut err);
-        assert_eq!(rt; got, status, "with room for {room}");
-        assert_eq!(rt; stream.bytes(), out.as_bytes(), "with room for {room}");
-        assert_eq!(rt; err.bytes(), text.as_bytes(), "with room for {room}");
+        assert_eq!(rt; got, status, "with this room");
+        assert_eq!(rt; stream.bytes(), out.as_bytes(), "with this room");
+        assert_eq!(rt; err.bytes(), text.as_bytes(), "with this room");
     }
     Ok(())
 }

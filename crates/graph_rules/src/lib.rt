@@ -1,7 +1,3 @@
-//! The rules of a graph, with the instructions that are built: a nop, a return, and a mov of 64 bits
-//! of a number to a register. Definitions, and the types that they speak of; no code.
+//! The rules of a graph as the theorem over runs has them, with the step of every instruction, as definitions. It has no
+//! code.
 #![tactic(auto)]
-
-mod built;
-
-pub use built::{BuiltInstr, Effect};

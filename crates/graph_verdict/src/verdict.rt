@@ -48,8 +48,6 @@ pub enum Verdict {
     Valid,
     /// The first broken rule.
     Invalid(Broken),
-    /// The first site whose instruction is not built yet.
-    NotBuilt { site: u64 },
 }
 
 impl Rule {

@@ -28,7 +28,7 @@ use Rattle.instr_at.specs.At.{instr_in, instr_at}
 use Rattle.step_rules.specs.Access.{with_register, part_term, address_term, address_term_of, bytes_term, known_term, read_term, after_read, merged_term, with_bytes, write_term}
 use Rattle.step_rules.specs.Cases as step_cases
 use Rattle.graph_runs.specs.World.{x86}
-use Rattle.whole_rules.specs.Rules.{view_of as seen, case_of, rules}
+use Rattle.graph_rules.specs.Rules.{view_of as seen, case_of, rules}
 use Rattle.push_witness.proofs.GraphLemmas.{graph_formed}
 use Rattle.push_witness.specs.Witness.{place, segment, image, after_push, after_pop, push_site, pop_site, ret_site, function, graph, Witnesses}
 

@@ -17,7 +17,7 @@ use Rattle.graph_data.specs.declared.graph.Graph.{Graph}
 use Rattle.graph_data.specs.WellFormed.{IsWellFormed}
 use Rattle.x86_instr.specs.Registers.{rsp}
 use Rattle.graph_runs.specs.World.{x86}
-use Rattle.whole_rules.specs.Rules.{rules}
+use Rattle.graph_rules.specs.Rules.{rules}
 
 -- the 123 bytes of the file, of which the last three are the code
 abbrev pub bytes : List ℕ
@@ -31,24 +31,27 @@ bytes =
     0x7b ∷ 0 ∷ 0 ∷ 0 ∷ 0 ∷ 0 ∷ 0 ∷ 0 ∷ 0x7b ∷ 0 ∷ 0 ∷ 0 ∷ 0 ∷ 0 ∷ 0 ∷ 0 ∷
     0 ∷ 0x10 ∷ 0 ∷ 0 ∷ 0 ∷ 0 ∷ 0 ∷ 0 ∷ 0x53 ∷ 0x5b ∷ 0xc3 ∷ []
 
--- where the file is loaded, and where its code stands
+-- where the file is loaded
 abbrev pub base : ℕ
 base = 0x400000
 
+-- where its code stands
 abbrev pub place : ℕ
 place = 0x400078
 
--- the executable: the file is one segment, which is code and is not written
+-- the file as one segment, which is code and is not written
 abbrev pub segment : Segment
 segment = record { lo = base; size = 123; bytes = bytes; exec = true; write = false }
 
+-- the executable
 abbrev pub image : Image
 image = record { entry = place; segs = segment ∷ [] }
 
--- the stack pointer of the entry, and 8 bytes below it
+-- the stack pointer of the entry
 abbrev pub top : PlainSum
 top = single_atom (symbol (Entry 4))
 
+-- the address 8 bytes below it
 abbrev pub below : PlainSum
 below = sum (2 ^ 64 - 8) (more (symbol (Entry 4)) 1 pieces.none)
 
@@ -58,14 +61,15 @@ saved =
     cell (top ∷ []) 8 (Some (single_atom (symbol Ra))) none
     (cell (below ∷ []) 8 (Some (single_atom (symbol (Entry 3)))) none none)
 
--- what is known after the push, and after the pop
+-- what is known after the push
 abbrev pub after_push : Predicate
 after_push = record entry_predicate { regs = slice_set entry_predicate.regs rsp (Some below); forest = saved }
 
+-- what is known after the pop
 abbrev pub after_pop : Predicate
 after_pop = record entry_predicate { forest = saved }
 
--- the graph: one function with three sites, of one vertex each
+-- the site of the push, with one vertex
 abbrev pub push_site : Site
 push_site =
     record {
@@ -77,6 +81,7 @@ push_site =
       vertices = record { pred = entry_predicate; out = (0x400079, 0) ∷ [] } ∷ [];
     }
 
+-- the site of the pop
 abbrev pub pop_site : Site
 pop_site =
     record {
@@ -88,6 +93,7 @@ pop_site =
       vertices = record { pred = after_push; out = (0x40007a, 0) ∷ [] } ∷ [];
     }
 
+-- the site of the return
 abbrev pub ret_site : Site
 ret_site =
     record {
@@ -99,6 +105,7 @@ ret_site =
       vertices = record { pred = after_pop; out = [] } ∷ [];
     }
 
+-- the function of the three sites
 abbrev pub function : Function
 function =
     record {
@@ -109,6 +116,7 @@ function =
       sites = push_site ∷ pop_site ∷ ret_site ∷ [];
     }
 
+-- the graph of that function
 abbrev pub graph : Graph
 graph = record { functions = function ∷ [] }
 

@@ -2,7 +2,7 @@ ghost use Rattle.push_witness.specs.Witness.{Witnesses, image, graph};
 ghost use Rattle.graph_runs.specs.World.{HasSafeRuns};
 
 use entailment_laws::laws_of_entailment;
-use whole_runs::runs_are_safe;
+use safe_runs::runs_are_safe;
 
 /// The executable of the example `push` is in form, and its graph is well formed and valid: these
 /// are the premises of the theorem. The call does nothing.

@@ -1,4 +1,3 @@
-pub mod BuiltLemmas
-pub mod FormLemmas
-pub mod StepLemmas
+pub mod WordLemmas
 pub mod LawLemmas
+pub mod FormLemmas

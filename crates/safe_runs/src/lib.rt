@@ -1,5 +1,5 @@
-//! The theorem over runs for x86-64 and the rules that are built: every run of a valid graph that
-//! keeps what the graph prints is safe. Laws, and no code.
+//! The theorem over runs with the step of every instruction: every run of a graph that keeps the rules is safe. It has
+//! no code.
 #![tactic(auto)]
 
 mod laws;

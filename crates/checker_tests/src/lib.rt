@@ -1,0 +1,10 @@
+//! Tests of `check` on graphs of whole functions: of small programs and of a compiled one, as they are valid and with a change
+//! that breaks one rule.
+#![tactic(auto)]
+
+#[cfg(test)]
+mod compiled_graph;
+#[cfg(test)]
+mod graphs;
+#[cfg(test)]
+mod whole_graphs;

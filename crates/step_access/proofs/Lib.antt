@@ -1,9 +1,0 @@
-pub mod DropLemmas
-pub mod AccessLemmas
-pub mod RangeLemmas
-pub mod SceneLemmas
-pub mod NumberLemmas
-pub mod ReadLemmas
-pub mod StoreLemmas
-pub mod NamedLemmas
-pub mod PushLemmas
