@@ -17,6 +17,18 @@ EXAMPLES = {
     "push.elf": "53 5B C3",                  # push rbx; pop rbx; ret
     # push rbx; xor ebx, ebx; inc ebx; cmp ebx, 10; jne (back to inc); pop rbx; ret
     "loop.elf": "53 31DB FFC3 83FB0A 75F9 5B C3",
+    "call.elf": "E801000000 C3 53 5B C3",    # call to the push; ret; push rbx; pop rbx; ret
+    "store.elf": "488937 C3",                # mov [rdi], rsi; ret
+    "stores.elf": "488937 48890A C3",        # mov [rdi], rsi; mov [rdx], rcx; ret
+    # cmp edi, 3; ja (to the last ret); mov eax, edi; jmp [rax*8+400090]; ret; ret; ret; and the table of the jump
+    "switch.elf": """
+        83FF03 770B 89F8 FF24C590004000 C3 C3 C3 CCCCCCCCCCCCCC
+        8600400000000000 8700400000000000 8600400000000000 8800400000000000""",
+    # compiled.s, and at its end the table of the switch: three addresses
+    "compiled.elf": """
+        F30F1EFA 53 4883EC10 64488B042528000000 4889442408 31DB E835000000 FFC3 83FB03 75F4 83F802 770D 89C0 FF24C5D8004000
+        31C0 FFC0 488B542408 64482B142528000000 7506 4883C410 5B C3 E807000000 F4 B802000000 C3 F4 CCCCCCCCCCCC
+        AB00400000000000 AD00400000000000 AF00400000000000""",
 }
 
 

@@ -22,7 +22,6 @@ import argparse
 import dataclasses
 import functools
 import json
-import pathlib
 import re
 import sys
 from dataclasses import dataclass, field
@@ -798,7 +797,8 @@ def main():
     parser.add_argument("graph", help="a file with the text of a graph")
     words = parser.parse_args()
     try:
-        graph = read_graph(pathlib.Path(words.graph).read_bytes())
+        with open(words.graph, "rb") as file:
+            graph = read_graph(file.read(TEXT_BYTES + 1))
     except OSError:
         print(f"foxdec: {words.graph}: read failed", file=sys.stderr)
         return 3

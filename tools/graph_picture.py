@@ -37,8 +37,14 @@ HEAD = """digraph foxdec {
 
 # ---- what a vertex says, in words
 
-def register_fact(name, term):
-    return f"{name} unknown" if term is None else f"{name} = {term}"
+def register_facts(registers):
+    """The known registers, a line each, then the unknown ones, six a line."""
+    for name, term in registers.items():
+        if term is not None:
+            yield f"{name} = {term}"
+    unknown = [name for name, term in registers.items() if term is None]
+    for first in range(0, len(unknown), 6):
+        yield " ".join([*unknown[first : first + 6], "unknown"])
 
 
 def bound_fact(bound):
@@ -58,8 +64,7 @@ def node_facts(node, level=0):
 
 
 def facts(vertex):
-    for name, term in vertex.registers.items():
-        yield register_fact(name, term)
+    yield from register_facts(vertex.registers)
     if vertex.flags:
         yield f"flags of {vertex.flags.left} - {vertex.flags.right}, {vertex.flags.width} bits"
     for bound in vertex.bounds:
@@ -147,7 +152,7 @@ def function_lines(function, listing):
     if not function.sites:
         refused = table([cell([f"{function.entry:x} {function.reason}"], RED)])
         return [f"{node_name(function, function.entry, 0)} [label={refused}]"]
-    title = f"function {function.entry:x}: frame of {function.below} bytes below, {function.above} above"
+    title = f"function {function.entry:x}\\nframe: {function.below} bytes below,\\n{function.above} above"
     lines = [f'subgraph "cluster {function.entry:x}" {{', f'label="{title}"; labelloc=t; color=grey40; style=rounded']
     for site in function.sites:
         lines += site_lines(function, site, listing)

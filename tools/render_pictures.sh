@@ -4,7 +4,7 @@ set -euo pipefail
 top=$(cd "$(dirname "$0")/.." && pwd)
 . "$top/tools/common.sh"
 need python3 dot
-for name in loop; do
+for name in loop compiled; do
     PYTHONDONTWRITEBYTECODE=1 python3 "$top/tools/graph_picture.py" \
         --listing "$top/examples/$name.listing" "$top/examples/$name.graph" | dot -Tsvg -o "$top/docs/$name.svg"
     echo "docs/$name.svg"
