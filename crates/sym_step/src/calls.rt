@@ -1,13 +1,19 @@
 // What is known where a callee begins and after its return, and where a call leads (System V x86-64 psABI, 3.2.1).
-ghost use Rattle.std.specs.Prelude.{◌≡◌, ◌↔◌, IfOk, IsTrue, is_some};
+ghost use Rattle.std.specs.Prelude.{◌≡◌, ◌↔◌, IfOk, IsTrue, OnOk, is_some};
 ghost use Rattle.std.specs.List.{list_all};
+ghost use Rattle.std.specs.Option.{option_and_then};
+ghost use Rattle.bits_core.specs.declared.width.Width.TheVariants.{W64};
+ghost use Rattle.sym_terms.specs.Plain.{constant_alone};
 ghost use Rattle.mem_forest.specs.Search.{value_at};
+ghost use Rattle.x86_instr.specs.Classes.{class_of};
 ghost use Rattle.x86_instr.specs.Fits.{InForm};
 ghost use Rattle.x86_machine.specs.Next.{next_address};
 ghost use Rattle.step_rules.specs.Drop.{dropped};
-ghost use Rattle.step_rules.specs.Calls.{begin, changed_by, cleared, after, call_target, KeepsHold};
+ghost use Rattle.step_rules.specs.Access.{known_term};
+ghost use Rattle.step_rules.specs.Calls.{begun, changed_by, cleared, call_target, KeepsHold};
 ghost use Rattle.step_values.specs.Views.{view_of};
 ghost use Rattle.sym_step.specs.Kept.{are_kept};
+ghost use Rattle.sym_step.specs.Returned.{returned};
 
 use bits_core::Width;
 use mem_forest::Region;
@@ -25,28 +31,35 @@ pub(crate) fn next_address(i: &Instr) -> u64
     i.addr.wrapping_add(u64::from(i.len))
 }
 
+// The facts go that mention the name of the instruction's site.
+fn drop_name(after: &mut After, alloc: Global, i: &Instr) -> Result<(), NoMemory>
+    ensures { OnOk result (after.new ≡ dropped i.now after.old) }
+{
+    after.forget(alloc, Sym::Named(i.addr))
+}
+
 /// The facts that don't mention the name of the instruction's site.
 pub(crate) fn dropped<'p>(alloc: Global, i: &Instr, p: &'p Pred) -> Result<After<'p>, NoMemory>
     ensures { IfOk result (λ a. a ≡ dropped i.now p.now) }
 {
     let mut after = After::kept(alloc, p)?;
-    after.forget(alloc, Sym::Named(i.addr))?;
-    Ok(after)
+    match drop_name(&mut after, alloc, i) {
+        Ok(()) => Ok(after),
+        Err(e) => Err(e),
+    }
 }
 
 // What is known where the callee begins: a call has stored the next address.
-fn begin<'p>(alloc: Global, v: &SiteView, i: &Instr, p: &'p Pred) -> Result<After<'p>, NoMemory>
-    ensures { IfOk result (λ a. a ≡ begin (view_of v.now) i.now p.now) }
+fn begin(after: &mut After, alloc: Global, v: &SiteView, i: &Instr) -> Result<(), NoMemory>
+    ensures { OnOk result (after.new ≡ begun (class_of i.now.op) (view_of v.now) i.now after.old) }
 {
-    let mut after = dropped(alloc, i, p)?;
     match i.op.class() {
         Class::Call => {
             let next = Term::constant(alloc, next_address(i));
-            let below = below_top(&after, alloc)?;
-            after.store(alloc, v, Width::W64, below, Some(&next))?;
-            Ok(after)
+            let below = below_top(after, alloc)?;
+            after.store(alloc, v, Width::W64, below, Some(&next))
         }
-        _ => Ok(after),
+        _ => Ok(()),
     }
 }
 
@@ -76,22 +89,38 @@ fn clear(after: &mut After, registers: &[u8])
 }
 
 /// What is known after the return: rax is the name.
-pub(crate) fn returned<'p>(
+pub(crate) fn returned(
+    after: &mut After,
     alloc: Global,
     v: &SiteView,
     i: &Instr,
-    p: &'p Pred,
-) -> Result<After<'p>, NoMemory>
-    ensures { IfOk result (λ a. a ≡ after (view_of v.now) i.now p.now) }
+) -> Result<(), NoMemory>
+    ensures { OnOk result (after.new ≡ returned (view_of v.now) i.now after.old) }
 {
-    let mut known = begin(alloc, v, i, p)?;
-    clear(&mut known, changed_by(i.op.class()));
-    known.clear_values(alloc, v.keeps)?;
-    known.set_fact(Fact::unknown());
-    known.forget(alloc, Sym::Named(i.addr))?;
+    begin(after, alloc, v, i)?;
+    clear(after, changed_by(i.op.class()));
+    after.clear_values(alloc, v.keeps)?;
+    after.set_fact(Fact::unknown());
+    drop_name(after, alloc, i)?;
     let name = name(alloc, i)?;
-    known.set_register(RAX, Slot::made(Some(name)));
-    Ok(known)
+    after.set_register(RAX, Slot::made(Some(name)));
+    Ok(())
+}
+
+// The constant of the operand of a call.
+fn operand_target(
+    after: &After,
+    alloc: Global,
+    v: &SiteView,
+    i: &Instr,
+) -> Result<Option<u64>, NoMemory>
+    ensures { IfOk result (λ t. t ≡ option_and_then constant_alone (known_term (view_of v.now) i.now after.now W64 i.now.dst)) }
+{
+    let target = after.known(alloc, v, i, Width::W64, &i.dst)?;
+    match target.get() {
+        Some(target) => Ok(target.as_constant()),
+        None => Ok(None),
+    }
 }
 
 /// The constant to which a call leads: its operand, read before the push. `None` where it isn't constant, and at any other
@@ -108,11 +137,7 @@ pub fn call_target(
     match i.op.class() {
         Class::Call => {
             let after = dropped(alloc, i, p)?;
-            let target = after.known(alloc, v, i, Width::W64, &i.dst)?;
-            match target.get() {
-                Some(target) => Ok(target.as_constant()),
-                None => Ok(None),
-            }
+            operand_target(&after, alloc, v, i)
         }
         _ => Ok(None),
     }
@@ -124,11 +149,24 @@ fn have_values(memory: &Memory, keeps: &[Region]) -> bool
     keeps.iter().all(|region| memory.has_value(region))
 }
 
+// Whether each region that the callee keeps has a value once it has begun.
+fn kept_at_begin(
+    after: &mut After,
+    alloc: Global,
+    v: &SiteView,
+    i: &Instr,
+) -> Result<bool, NoMemory>
+    ensures { IfOk result (λ b. b ≡ list_all (λ k. is_some (value_at k.at k.bytes (begun (class_of i.now.op) (view_of v.now) i.now after.old).forest)) (view_of v.now).keeps) }
+{
+    begin(after, alloc, v, i)?;
+    Ok(have_values(after.memory(), v.keeps))
+}
+
 fn are_kept(alloc: Global, v: &SiteView, i: &Instr, p: &Pred) -> Result<bool, NoMemory>
     ensures { IfOk result (λ b. b ≡ are_kept (view_of v.now) i.now p.now) }
 {
-    let after = begin(alloc, v, i, p)?;
-    Ok(have_values(after.memory(), v.keeps))
+    let mut after = dropped(alloc, i, p)?;
+    kept_at_begin(&mut after, alloc, v, i)
 }
 
 /// Whether each region that the callee keeps is a cell with a value where it begins.

@@ -1,5 +1,5 @@
 // Where every instruction leads, and what is known there.
-ghost use Rattle.std.specs.Prelude.{◌≡◌, ◌<◌, ◌∷◌, IfOk, IfSome, Some, length, map, slice_get};
+ghost use Rattle.std.specs.Prelude.{◌≡◌, ◌<◌, ◌≤◌, ◌∷◌, ◌++◌, [], IfOk, IfSome, OnOk, Some, length, map, slice_get};
 ghost use Rattle.std.specs.Option.{option_copied, option_map, IsSomeAnd};
 ghost use Rattle.std.specs.Vec.{vec_items};
 ghost use Rattle.predicates.specs.Missing.{missing};
@@ -9,7 +9,7 @@ ghost use Rattle.step_rules.specs.Executed.{executed};
 ghost use Rattle.step_rules.specs.Cases.{aliased, goes_on, jump_cases, cases};
 ghost use Rattle.step_rules.specs.Drop.{dropped};
 ghost use Rattle.step_values.specs.Views.{view_of};
-ghost use Rattle.sym_step.specs.Led.{bounded, led_cases};
+ghost use Rattle.sym_step.specs.Led.{bounded, led_cases, others};
 
 use crate::calls::{dropped, next_address, returned};
 use crate::jumps::{branches, jumps};
@@ -23,25 +23,26 @@ use step_values::After;
 use sym_terms::NoMemory;
 use x86_instr::{Class, Instr, Op};
 
-/// How cases share what they know.
+/// Where an instruction leads, and how its cases share what is known.
 #[derive(Drop)]
 pub enum Led<'p> {
-    /// No case.
+    /// Nowhere: no case.
     Nowhere,
-    /// One.
-    At(u64, After<'p>),
-    /// Two at these addresses, which differ in their bounds: other ones where those are told.
-    Branch(u64, u64, After<'p>, Option<Items<Bound>>, Option<Items<Bound>>),
-    /// Three at one address: a pair of regions is one, separate, or neither.
-    Fork(u64, After<'p>, After<'p>, After<'p>),
-    /// One at each address, with the same knowledge.
-    Each(Vec<u64>, After<'p>),
+    /// To one address.
+    At(u64),
+    /// To two, of which the cases differ in their bounds: other ones where those are told.
+    Branch(u64, u64, Option<Items<Bound>>, Option<Items<Bound>>),
+    /// To one, in several cases: all but the last know these.
+    Fork(u64, Vec<After<'p>>),
+    /// To each of these, with the same knowledge.
+    Each(Vec<u64>),
 }
 
 /// The cases of an instruction: the addresses to which it leads, and what is known there.
 #[derive(Drop)]
 pub struct Cases<'p> {
     led: Led<'p>,
+    after: After<'p>,
 }
 
 impl<'p> Model for Cases<'p> {
@@ -55,7 +56,7 @@ impl<'p> Model for Cases<'p> {
 
     ghost coded = { coded_list coded_case };
 
-    ghost view = { λ c. led_cases c.led };
+    ghost view = { λ c. led_cases c.led c.after };
 }
 
 impl<'p> Cases<'p> {
@@ -69,22 +70,25 @@ impl<'p> Cases<'p> {
         requires { InForm i.now }
         ensures { IfOk result (λ r. r ≡ cases (view_of v.now) i.now p.now) }
     {
-        match led_of(alloc, v, i, p)? {
-            Some(led) => Ok(Some(Cases { led })),
-            None => Ok(None),
+        let mut after = dropped(alloc, i, p)?;
+        match led_of(&mut after, alloc, v, i, p) {
+            Ok(Some(led)) => Ok(Some(Cases { led, after })),
+            Ok(None) => Ok(None),
+            Err(e) => Err(e),
         }
     }
 
     /// The number of cases.
+    #[tactic(auto, using(crate::proofs::CaseLemmas::length_with_last))]
     pub fn len(&self) -> usize
         ensures { result ≡ length self.now }
     {
         match &self.led {
             Led::Nowhere => 0,
-            Led::At(_, _) => 1,
-            Led::Branch(_, _, _, _, _) => 2,
-            Led::Fork(_, _, _, _) => 3,
-            Led::Each(addresses, _) => addresses.len(),
+            Led::At(_) => 1,
+            Led::Branch(_, _, _, _) => 2,
+            Led::Fork(_, others) => others.len() + 1,
+            Led::Each(addresses) => addresses.len(),
         }
     }
 
@@ -95,39 +99,44 @@ impl<'p> Cases<'p> {
     {
         match &self.led {
             Led::Nowhere => 0,
-            Led::At(address, _) => *address,
-            Led::Branch(taken, passed, _, _, _) => { if case == 0 { *taken } else { *passed } }
-            Led::Fork(address, _, _, _) => *address,
-            Led::Each(addresses, _) => addresses[case],
+            Led::At(address) => *address,
+            Led::Branch(taken, passed, _, _) => { if case == 0 { *taken } else { *passed } }
+            Led::Fork(address, _) => *address,
+            Led::Each(addresses) => addresses[case],
         }
     }
 
     /// The first conjunct of `q` that a case lacks, `None` where it entails `q`; takes no memory.
+    #[tactic(auto, using(crate::proofs::CaseLemmas::length_with_last))]
     pub fn first_missing(&self, case: usize, q: &Pred) -> Option<Conjunct>
         requires { case < length self.now }
         ensures { IfSome (slice_get self.now case) (λ c. result ≡ missing c.pred q.now) }
     {
         match &self.led {
             Led::Nowhere => None,
-            Led::At(_, after) => after.first_missing(q),
-            Led::Branch(_, _, after, holding, failing) => {
+            Led::At(_) => self.after.first_missing(q),
+            Led::Branch(_, _, holding, failing) => {
                 if case == 0 {
-                    missing_with(after, holding.as_ref(), q)
+                    missing_with(&self.after, holding.as_ref(), q)
                 } else {
-                    missing_with(after, failing.as_ref(), q)
+                    missing_with(&self.after, failing.as_ref(), q)
                 }
             }
-            Led::Fork(_, aliased, separate, neither) => {
-                if case == 0 {
-                    aliased.first_missing(q)
-                } else if case == 1 {
-                    separate.first_missing(q)
-                } else {
-                    neither.first_missing(q)
-                }
-            }
-            Led::Each(_, after) => after.first_missing(q),
+            Led::Fork(_, others) => known_in(others.as_slice(), &self.after, case).first_missing(q),
+            Led::Each(_) => self.after.first_missing(q),
         }
+    }
+}
+
+// What is known in a case, of all but the last and of the last.
+fn known_in<'a, 'p>(others: &'a [After<'p>], last: &'a After<'p>, case: usize) -> &'a After<'p>
+    requires { case ≤ length others.now }
+    ensures { slice_get (others.now ++ last.now ∷ []) case ≡ Some result.now }
+{
+    if case < others.len() {
+        &others[case]
+    } else {
+        last
     }
 }
 
@@ -138,32 +147,6 @@ fn missing_with(after: &After, bounds: Option<&Items<Bound>>, q: &Pred) -> Optio
         Some(bounds) => after.first_missing_with(bounds.as_slice(), q),
         None => after.first_missing(q),
     }
-}
-
-// What is known after an instruction that goes on.
-fn stepped<'p>(alloc: Global, v: &SiteView, i: &Instr, p: &'p Pred) -> Result<After<'p>, NoMemory>
-    ensures { IfOk result (λ a. a ≡ executed i.now.op (view_of v.now) i.now (dropped i.now p.now)) }
-{
-    let mut after = dropped(alloc, i, p)?;
-    executed(&mut after, alloc, v, i)?;
-    Ok(after)
-}
-
-// The same where the first region's address is one more name of the second's cell.
-fn stepped_aliased<'p>(
-    alloc: Global,
-    v: &SiteView,
-    i: &Instr,
-    p: &'p Pred,
-    pair: &(Region, Region),
-) -> Result<After<'p>, NoMemory>
-    ensures { IfOk result (λ a. a ≡ executed i.now.op (view_of v.now) i.now (aliased (dropped i.now p.now) pair.now)) }
-{
-    let (region, other) = pair;
-    let mut after = dropped(alloc, i, p)?;
-    after.alias(alloc, region, other)?;
-    executed(&mut after, alloc, v, i)?;
-    Ok(after)
 }
 
 fn region_copy(alloc: Global, region: &Region) -> Result<Region, NoMemory>
@@ -202,15 +185,30 @@ fn pairs_with(
     Ok(out)
 }
 
-// What is known after an instruction that goes on where one more pair is separate.
-fn stepped_parted<'p>(
+// After an instruction that goes on, where the first region's address is one more name of the second's cell.
+fn step_aliased(
+    after: &mut After,
     alloc: Global,
     v: &SiteView,
     i: &Instr,
-    p: &'p Pred,
     pair: &(Region, Region),
-) -> Result<After<'p>, NoMemory>
-    ensures { IfOk result (λ a. a ≡ executed i.now.op (parted (view_of v.now) pair.now) i.now (dropped i.now p.now)) }
+) -> Result<(), NoMemory>
+    ensures { OnOk result (after.new ≡ executed i.now.op (view_of v.now) i.now (aliased after.old pair.now)) }
+{
+    let (region, other) = pair;
+    after.alias(alloc, region, other)?;
+    executed(after, alloc, v, i)
+}
+
+// After an instruction that goes on, where one more pair is separate.
+fn step_parted(
+    after: &mut After,
+    alloc: Global,
+    v: &SiteView,
+    i: &Instr,
+    pair: &(Region, Region),
+) -> Result<(), NoMemory>
+    ensures { OnOk result (after.new ≡ executed i.now.op (parted (view_of v.now) pair.now) i.now after.old) }
 {
     let seps = pairs_with(alloc, pair, v.context.seps)?;
     let parted = SiteView {
@@ -223,63 +221,123 @@ fn stepped_parted<'p>(
         fork: v.fork,
         keeps: v.keeps,
     };
-    stepped(alloc, &parted, i, p)
+    executed(after, alloc, &parted, i)
 }
 
-fn goes_on<'p>(alloc: Global, v: &SiteView, i: &Instr, p: &'p Pred) -> Result<Led<'p>, NoMemory>
-    ensures { IfOk result (λ l. led_cases l ≡ goes_on (view_of v.now) i.now (dropped i.now p.now) (view_of v.now).fork) }
+fn push_aliased<'p>(
+    known: &mut Vec<After<'p>>,
+    alloc: Global,
+    v: &SiteView,
+    i: &Instr,
+    p: &'p Pred,
+    pair: &(Region, Region),
+) -> Result<(), NoMemory>
+    ensures { OnOk result (known.new.items ≡ known.old.items ++ executed i.now.op (view_of v.now) i.now (aliased (dropped i.now p.now) pair.now) ∷ []) }
 {
+    let mut after = dropped(alloc, i, p)?;
+    step_aliased(&mut after, alloc, v, i, pair)?;
+    known.push(after).map_err(AllocError::from)?;
+    Ok(())
+}
+
+fn push_parted<'p>(
+    known: &mut Vec<After<'p>>,
+    alloc: Global,
+    v: &SiteView,
+    i: &Instr,
+    p: &'p Pred,
+    pair: &(Region, Region),
+) -> Result<(), NoMemory>
+    ensures { OnOk result (known.new.items ≡ known.old.items ++ executed i.now.op (parted (view_of v.now) pair.now) i.now (dropped i.now p.now) ∷ []) }
+{
+    let mut after = dropped(alloc, i, p)?;
+    step_parted(&mut after, alloc, v, i, pair)?;
+    known.push(after).map_err(AllocError::from)?;
+    Ok(())
+}
+
+// What is known after an instruction that goes on where a pair's regions are one, and where they are separate.
+fn push_others<'p>(
+    known: &mut Vec<After<'p>>,
+    alloc: Global,
+    v: &SiteView,
+    i: &Instr,
+    p: &'p Pred,
+    pair: &(Region, Region),
+) -> Result<(), NoMemory>
+    ensures { OnOk result (known.new.items ≡ known.old.items ++ others (view_of v.now) i.now p.now pair.now) }
+{
+    push_aliased(known, alloc, v, i, p, pair)?;
+    push_parted(known, alloc, v, i, p, pair)
+}
+
+fn others_of<'p>(
+    alloc: Global,
+    v: &SiteView,
+    i: &Instr,
+    p: &'p Pred,
+    pair: &(Region, Region),
+) -> Result<Vec<After<'p>>, NoMemory>
+    ensures { IfOk result (λ known. known.items ≡ others (view_of v.now) i.now p.now pair.now) }
+{
+    let mut known = Vec::new(alloc);
+    match push_others(&mut known, alloc, v, i, p, pair) {
+        Ok(()) => Ok(known),
+        Err(e) => Err(e),
+    }
+}
+
+fn goes_on<'p>(
+    after: &mut After,
+    alloc: Global,
+    v: &SiteView,
+    i: &Instr,
+    p: &'p Pred,
+) -> Result<Led<'p>, NoMemory>
+    requires { after.old ≡ dropped i.now p.now }
+    ensures { IfOk result (λ l. led_cases l after.new ≡ goes_on (view_of v.now) i.now (dropped i.now p.now) (view_of v.now).fork) }
+{
+    executed(after, alloc, v, i)?;
     match v.fork {
-        Some(pair) => {
-            let aliased = stepped_aliased(alloc, v, i, p, pair)?;
-            let separate = stepped_parted(alloc, v, i, p, pair)?;
-            let neither = stepped(alloc, v, i, p)?;
-            Ok(Led::Fork(next_address(i), aliased, separate, neither))
-        }
-        None => {
-            let after = stepped(alloc, v, i, p)?;
-            Ok(Led::At(next_address(i), after))
-        }
+        Some(pair) => Ok(Led::Fork(next_address(i), others_of(alloc, v, i, p, pair)?)),
+        None => Ok(Led::At(next_address(i))),
     }
 }
 
 fn jump_cases<'p>(
+    after: &mut After,
     alloc: Global,
     v: &SiteView,
     i: &Instr,
-    p: &'p Pred,
 ) -> Result<Option<Led<'p>>, NoMemory>
-    ensures { IfOk result (λ r. option_map led_cases r ≡ jump_cases i.now.op (view_of v.now) i.now (dropped i.now p.now)) }
+    ensures { IfOk result (λ r. option_map (λ l. led_cases l after.new) r ≡ jump_cases i.now.op (view_of v.now) i.now after.old) }
 {
     match i.op {
-        Op::Jcc => {
-            let after = dropped(alloc, i, p)?;
-            Ok(Some(branches(after, alloc, v, i)?))
-        }
-        Op::Jmp => {
-            let after = dropped(alloc, i, p)?;
-            jumps(after, alloc, v, i)
-        }
+        Op::Jcc => Ok(Some(branches(after, alloc, i)?)),
+        Op::Jmp => jumps(after, alloc, v, i),
         _ => Ok(None),
     }
 }
 
+// Where an instruction leads, from what is known without its site's old name; then what its last case knows.
 fn led_of<'p>(
+    after: &mut After,
     alloc: Global,
     v: &SiteView,
     i: &Instr,
     p: &'p Pred,
 ) -> Result<Option<Led<'p>>, NoMemory>
-    ensures { IfOk result (λ r. option_map led_cases r ≡ cases (view_of v.now) i.now p.now) }
+    requires { after.old ≡ dropped i.now p.now }
+    ensures { IfOk result (λ r. option_map (λ l. led_cases l after.new) r ≡ cases (view_of v.now) i.now p.now) }
 {
     match i.op.class() {
         Class::Calculation | Class::Transfer | Class::Division => {
-            Ok(Some(goes_on(alloc, v, i, p)?))
+            Ok(Some(goes_on(after, alloc, v, i, p)?))
         }
-        Class::Jump => jump_cases(alloc, v, i, p),
+        Class::Jump => jump_cases(after, alloc, v, i),
         Class::Call | Class::SystemCall => {
-            let after = returned(alloc, v, i, p)?;
-            Ok(Some(Led::At(next_address(i), after)))
+            returned(after, alloc, v, i)?;
+            Ok(Some(Led::At(next_address(i))))
         }
         Class::Return | Class::Stop => Ok(Some(Led::Nowhere)),
     }
@@ -296,8 +354,15 @@ pub fn case_addresses(
     requires { InForm i.now }
     ensures { IfOk result (λ r. option_map vec_items r ≡ option_map (map (λ c. c.address)) (cases (view_of v.now) i.now p.now)) }
 {
-    match Cases::of(alloc, v, i, p)? {
-        Some(cases) => some_addresses(alloc, &cases),
+    let cases = Cases::of(alloc, v, i, p)?;
+    known_addresses(alloc, cases.as_ref())
+}
+
+fn known_addresses(alloc: Global, cases: Option<&Cases>) -> Result<Option<Vec<u64>>, NoMemory>
+    ensures { IfOk result (λ r. option_map vec_items r ≡ option_map (map (λ c. c.address)) (option_copied cases.entry)) }
+{
+    match cases {
+        Some(cases) => some_addresses(alloc, cases),
         None => Ok(None),
     }
 }
@@ -334,8 +399,16 @@ pub fn holds_edge(
     requires case { IsSomeAnd (cases (view_of v.now) i.now p.now) (λ cs. case < length cs) }
     ensures { IfOk result (λ m. IfSome (cases (view_of v.now) i.now p.now) (λ cs. IfSome (slice_get cs case) (λ c. m ≡ missing c.pred q.now))) }
 {
-    match Cases::of(alloc, v, i, p)? {
-        Some(cases) => Ok(cases.first_missing(case as usize, q)),
-        None => Ok(None),
+    let cases = Cases::of(alloc, v, i, p)?;
+    Ok(missing_in(cases.as_ref(), case as usize, q))
+}
+
+fn missing_in(cases: Option<&Cases>, case: usize, q: &Pred) -> Option<Conjunct>
+    requires { IsSomeAnd (option_copied cases) (λ cs. case < length cs) }
+    ensures { IfSome (option_copied cases.entry) (λ cs. IfSome (slice_get cs case) (λ c. result ≡ missing c.pred q.now)) }
+{
+    match cases {
+        Some(cases) => cases.first_missing(case, q),
+        None => None,
     }
 }

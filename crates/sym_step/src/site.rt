@@ -6,10 +6,11 @@ ghost use Rattle.bits_core.specs.Width.{bytes_of};
 ghost use Rattle.x86_instr.specs.Fits.{InForm};
 ghost use Rattle.sym_terms.specs.declared.kinds.Sym.TheVariants.{Ra};
 ghost use Rattle.mem_forest.specs.Search.{value_at};
+ghost use Rattle.x86_instr.specs.Groups.{group_of};
 ghost use Rattle.x86_instr.specs.Registers.{rsp};
 ghost use Rattle.predicate_meaning.specs.Sat.{register};
 ghost use Rattle.predicate_meaning.specs.Returns.{Returns, saved_registers};
-ghost use Rattle.step_rules.specs.Site.{region_of, place_region, push_region, store_region, can_fork, fork_holds};
+ghost use Rattle.step_rules.specs.Site.{region_of, place_region, push_region, store_region_in, store_region, can_fork, fork_holds};
 ghost use Rattle.step_values.specs.Views.{view_of};
 ghost use Rattle.sym_step.specs.Restored.{is_known, is_restored, is_top_restored, is_returned};
 
@@ -57,21 +58,28 @@ fn push_region(after: &After, alloc: Global, i: &Instr) -> Result<Option<Region>
     Ok(region_at(Width::W64, push_address(after, alloc, i)?))
 }
 
+// The region of a store, from what is known without the site's old name.
+fn stored_region(after: &After, alloc: Global, i: &Instr) -> Result<Option<Region>, NoMemory>
+    ensures { IfOk result (λ r. r ≡ store_region_in (group_of i.now.op) i.now after.now) }
+{
+    match i.op {
+        Op::Push | Op::Call => push_region(after, alloc, i),
+        Op::Cmp | Op::Test | Op::Lea | Op::Movzx | Op::Movsx => Ok(None),
+        Op::Mul | Op::Imul1 | Op::Div | Op::Idiv | Op::Imul2 | Op::Imul3 => Ok(None),
+        Op::Pop | Op::Leave | Op::Widen | Op::Signs | Op::Bswap | Op::Cmov => Ok(None),
+        Op::Jcc | Op::Jmp | Op::Ret | Op::Nop | Op::Syscall => Ok(None),
+        Op::Hlt | Op::Ud2 | Op::Int3 => Ok(None),
+        _ => place_region(after, alloc, i, &i.dst),
+    }
+}
+
 /// The region to which the instruction stores; `None` where it stores nothing, or to an unknown address.
 pub fn store_region(alloc: Global, i: &Instr, p: &Pred) -> Result<Option<Region>, NoMemory>
     requires { InForm i.now }
     ensures { IfOk result (λ r. r ≡ store_region i.now p.now) }
 {
     let after = dropped(alloc, i, p)?;
-    match i.op {
-        Op::Push | Op::Call => push_region(&after, alloc, i),
-        Op::Cmp | Op::Test | Op::Lea | Op::Movzx | Op::Movsx => Ok(None),
-        Op::Mul | Op::Imul1 | Op::Div | Op::Idiv | Op::Imul2 | Op::Imul3 => Ok(None),
-        Op::Pop | Op::Leave | Op::Widen | Op::Signs | Op::Bswap | Op::Cmov => Ok(None),
-        Op::Jcc | Op::Jmp | Op::Ret | Op::Nop | Op::Syscall => Ok(None),
-        Op::Hlt | Op::Ud2 | Op::Int3 => Ok(None),
-        _ => place_region(&after, alloc, i, &i.dst),
-    }
+    stored_region(&after, alloc, i)
 }
 
 fn can_fork(class: Class) -> bool
