@@ -49,7 +49,7 @@ put_more f P s old mid new out xs h g a x b e = record {
   value = map-append (f new) out (a ∷ []) ∙ ap₂ (λ ys zs. ys ++ zs) (map_same (P (length mid)) (f new) (f mid) (s.same mid new g) out h.within ∙ h.value) (ap (λ y. y ∷ []) e);
 }
 
-take_more : {A : Type 0} (xs : List A) (i : ℕ) (d : A) → i < length xs → take (i + 1) xs ≡ take i xs ++ get_or xs i d ∷ []
+pub take_more : {A : Type 0} (xs : List A) (i : ℕ) (d : A) → i < length xs → take (i + 1) xs ≡ take i xs ++ get_or xs i d ∷ []
 take_more xs i d inside = let e : i + 1 ≡ suc i = omega arith in ap (λ k. take k xs) e ∙ take-suc xs i d inside
 
 -- the next item of a list was put

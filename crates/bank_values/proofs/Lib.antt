@@ -1,6 +1,6 @@
 pub mod LevelLemmas
 pub mod GrowLemmas
 pub mod StableLemmas
-pub mod MadeLemmas
+pub mod FoundLemmas
 pub mod LeftLemmas
 pub mod CommuteLemmas

@@ -1,19 +1,15 @@
 -- What is read through a list of terms stays when the list grows.
-use Rattle.std.proofs.Common.{◌≡◌, ℕ, ◌<◌, ◌≤◌, Option, Some, None, List, length, map, refl, sym, ap, ◌∙◌, arith}
+use Rattle.std.proofs.Common.{◌≡◌, ℕ, ◌<◌, ◌≤◌, Option, Some, None, List, length, map, refl, sym, ap, subst, ◌∙◌, arith}
 use Rattle.std.specs.Prelude.{All, IfSome}
 use Rattle.std.specs.Option.{option_map}
 use Rattle.bits_core.specs.declared.width.Width.{Width}
-use Rattle.predicates.specs.declared.bound.Values.{Values}
+use Rattle.predicates.specs.Predicate.{Predicate}
 use Rattle.mem_forest.specs.Plain.{PlainNode, cell, cells}
 use Rattle.sym_terms.specs.Plain.{PlainSum}
 use Rattle.term_bank.specs.Terms.{Grows, term_at}
 use Rattle.bank_values.specs.Numbered.{NumberForest, empty, spot, NumberNode, level}
-use Rattle.bank_values.specs.ReadBack.{known_at, fact_at, bound_at, forest_at, node_at, IsKnownBelow, AreBelow, IsNodeBelow}
-use Rattle.bank_values.specs.Parts.{entry_at, held_at, comparison_at, limit_at, memory_at, IsEntryBelow, IsHeldBelow, IsMemoryBelow}
-use Rattle.bank_values.specs.declared.parts.Memory.{Memory}
-use Rattle.bank_values.specs.declared.parts.Memory.TheVariants as memory
-use Rattle.bank_values.specs.declared.parts.Entry.{Entry}
-use Rattle.bank_values.specs.declared.parts.Entry.TheVariants.{Kept, Made}
+use Rattle.bank_values.specs.ReadBack.{known_at, fact_at, bound_at, forest_at, node_at, predicate_at, IsKnownBelow, AreBelow, IsNodeBelow, IsBelow, IsPred}
+use Rattle.bank_values.specs.declared.pred.BankPred.{BankPred}
 use Rattle.bank_values.proofs.GrowLemmas.{IsStable, all_from, map_same, grows_trans}
 use Rattle.bank_values.proofs.LevelLemmas.{level_at, level_below}
 
@@ -62,34 +58,6 @@ stable_node = record {
   more = λ m n l c h. ((names_more m n l c.names h.0.0, known_more m n l c.value h.0.1), forest_more m n l c.under h.1);
 }
 
-entry_same : (old new : List PlainSum) → Grows old new → (e : Entry) → IsEntryBelow (length old) e → entry_at new e ≡ entry_at old e
-entry_same old new g (Kept n) h = g.same n h
-entry_same old new g (Made t) h = refl
-
-entry_more : (m n : ℕ) → m ≤ n → (e : Entry) → IsEntryBelow m e → IsEntryBelow n e
-entry_more m n l (Kept k) h = omega (arith, l, h)
-entry_more m n l (Made t) h = h
-
--- a term in parts
-pub stable_entry : IsStable entry_at IsEntryBelow
-stable_entry = record { same = entry_same; more = entry_more }
-
-held_same : (old new : List PlainSum) → Grows old new → (e : Option Entry) → IsHeldBelow (length old) e → held_at new e ≡ held_at old e
-held_same old new g None h = refl
-held_same old new g (Some e) h = ap Some (entry_same old new g e h)
-
-held_more : (m n : ℕ) → m ≤ n → (e : Option Entry) → IsHeldBelow m e → IsHeldBelow n e
-held_more m n l None h = h
-held_more m n l (Some e) h = entry_more m n l e h
-
--- the same, where there is one
-pub stable_held : IsStable held_at IsHeldBelow
-stable_held = record { same = held_same; more = held_more }
-
--- a bound in parts
-pub limit_same : (old new : List PlainSum) → Grows old new → (b : Entry × Values) → IsEntryBelow (length old) b.0 → limit_at new b ≡ limit_at old b
-limit_same old new g b h i = record { key = entry_same old new g b.0 h i; set = b.1 }
-
 -- a node whose names, value and nodes under it were put one after another
 pub node_put : (a b c : List PlainSum) → Grows a b → Grows b c → (ns : List ℕ) (bytes : ℕ) (v : Option ℕ) (cs : List NumberNode) (names : List PlainSum) (value : Option PlainSum) (under : List PlainNode)
     → All (λ m. m < length a) ns → map (term_at a) ns ≡ names → IsKnownBelow (length b) v → known_at b v ≡ value → All (IsNodeBelow (length c)) cs → map (node_at c) cs ≡ under
@@ -107,18 +75,56 @@ pub facts_same : (old new : List PlainSum) → Grows old new → (f : Option (Wi
 facts_same old new g None h = refl
 facts_same old new g (Some f) h = λ i. Some (record { width = f.0; left = g.same f.1 h.0 i; right = g.same f.2 h.1 i })
 
--- a flag fact in parts
-pub comparisons_same : (old new : List PlainSum) → Grows old new → (f : Option (Width × Entry × Entry)) → IfSome f (λ f. IsEntryBelow (length old) f.1 × IsEntryBelow (length old) f.2)
-    → option_map (comparison_at new) f ≡ option_map (comparison_at old) f
-comparisons_same old new g None h = refl
-comparisons_same old new g (Some f) h = λ i. Some (record { width = f.0; left = entry_same old new g f.1 h.0 i; right = entry_same old new g f.2 h.1 i })
+facts_more : (m n : ℕ) → m ≤ n → (f : Option (Width × ℕ × ℕ)) → IfSome f (λ f. (f.1 < m) × (f.2 < m)) → IfSome f (λ f. (f.1 < n) × (f.2 < n))
+facts_more m n l None h = h
+facts_more m n l (Some f) h = (omega (arith, l, h.0), omega (arith, l, h.1))
 
--- memory in parts
-pub memory_same : (old new : List PlainSum) → Grows old new → (m : Memory) → IsMemoryBelow (length old) m → memory_at new m ≡ memory_at old m
-memory_same old new g (memory.Kept nodes) h = forest_same old new g (level nodes.items) h
-memory_same old new g (memory.Made f) h = refl
+predicate_same : (old new : List PlainSum) → Grows old new → (p : BankPred) → IsBelow (length old) p → predicate_at new p ≡ predicate_at old p
+predicate_same old new g p h =
+    let regs = map_same (IsKnownBelow (length old)) (known_at new) (known_at old) (known_same old new g) p.regs.items h.regs in
+    let flags = facts_same old new g p.flags h.flags in
+    let bounds = map_same (λ b. b.0 < length old) (bound_at new) (bound_at old) (stable_bound.same old new g) p.bounds.items h.bounds in
+    let forest = forest_same old new g (level p.nodes.items) h.nodes in
+    λ i. record { regs = regs i; flags = flags i; bounds = bounds i; forest = forest i }
 
--- its numbers stay those of terms
-pub memory_more : (m n : ℕ) → m ≤ n → (x : Memory) → IsMemoryBelow m x → IsMemoryBelow n x
-memory_more m n l (memory.Kept nodes) h = forest_more m n l (level nodes.items) h
-memory_more m n l (memory.Made f) h = h
+predicate_more : (m n : ℕ) → m ≤ n → (p : BankPred) → IsBelow m p → IsBelow n p
+predicate_more m n l p h = record {
+  regs = all_from (IsKnownBelow m) (IsKnownBelow n) (known_more m n l) p.regs.items h.regs;
+  flags = facts_more m n l p.flags h.flags;
+  bounds = all_from (λ b. b.0 < m) (λ b. b.0 < n) (stable_bound.more m n l) p.bounds.items h.bounds;
+  nodes = forest_more m n l (level p.nodes.items) h.nodes;
+}
+
+-- a predicate
+pub stable_predicate : IsStable predicate_at IsBelow
+stable_predicate = record { same = predicate_same; more = predicate_more }
+
+-- a predicate whose parts were put one after another
+pub predicate_put : (a b c d : List PlainSum) → Grows a b → Grows b c → Grows c d → (q : BankPred) (p : Predicate)
+    → All (IsKnownBelow (length a)) q.regs.items → map (known_at a) q.regs.items ≡ p.regs
+    → IfSome q.flags (λ f. (f.1 < length b) × (f.2 < length b)) → option_map (fact_at b) q.flags ≡ p.flags
+    → All (λ k. k.0 < length c) q.bounds.items → map (bound_at c) q.bounds.items ≡ p.bounds
+    → AreBelow (length d) (level q.nodes.items) → forest_at d (level q.nodes.items) ≡ p.forest
+    → IsBelow (length d) q × (predicate_at d q ≡ p)
+predicate_put a b c d ab bc cd q p regs_in regs_are flags_in flags_are bounds_in bounds_are nodes_in nodes_are =
+    let bd = grows_trans b c d bc cd in
+    let ad = grows_trans a b d ab bd in
+    let regs = map_same (IsKnownBelow (length a)) (known_at d) (known_at a) (known_same a d ad) q.regs.items regs_in ∙ regs_are in
+    let flags = facts_same b d bd q.flags flags_in ∙ flags_are in
+    let bounds = map_same (λ k. k.0 < length c) (bound_at d) (bound_at c) (stable_bound.same c d cd) q.bounds.items bounds_in ∙ bounds_are in (
+      record {
+        regs = all_from (IsKnownBelow (length a)) (IsKnownBelow (length d)) (known_more (length a) (length d) ad.longer) q.regs.items regs_in;
+        flags = facts_more (length b) (length d) bd.longer q.flags flags_in;
+        bounds = all_from (λ k. k.0 < length c) (λ k. k.0 < length d) (stable_bound.more (length c) (length d) cd.longer) q.bounds.items bounds_in;
+        nodes = nodes_in;
+      },
+      λ i. record { regs = regs i; flags = flags i; bounds = bounds i; forest = nodes_are i },
+    )
+
+-- its numbers stay those of terms when more are put
+pub below_after : (old new : List PlainSum) → Grows old new → (p : BankPred) → IsBelow (length old) p → IsBelow (length new) p
+below_after old new g p h = predicate_more (length old) (length new) g.longer p h
+
+-- and it stays one in form
+pub formed_after : (old new : List PlainSum) → Grows old new → (p : BankPred) → IsBelow (length old) p → IsPred (predicate_at old p) → IsPred (predicate_at new p)
+formed_after old new g p h f = subst IsPred (sym (predicate_same old new g p h)) f

@@ -2,6 +2,5 @@ pub mod Numbered
 pub mod Codes
 pub mod Falls
 pub mod ReadBack
-pub mod Parts
 pub mod Weaken
 pub use Rattle.term_bank.specs.Terms

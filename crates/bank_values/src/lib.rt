@@ -2,18 +2,15 @@
 //! weakened by another. It runs no instruction.
 #![tactic(auto)]
 
+mod known;
 mod list;
 mod node;
-mod parts;
 mod pred;
 mod putting;
 mod reading;
-mod settling;
 mod weakening;
 
 pub use node::{BankNode, copy_nodes};
-pub use parts::{Entry, Memory, Parts};
 pub use pred::BankPred;
-pub use putting::to_bank;
+pub use putting::{renumber, to_bank};
 pub use reading::{copy_at, from_bank, read_nodes};
-pub use settling::settle;

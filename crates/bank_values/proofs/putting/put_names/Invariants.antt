@@ -1,7 +1,7 @@
 use Rattle.std.proofs.Common.{◌<◌, take}
 use Rattle.term_bank.specs.Terms.{term_at}
 use Rattle.bank_values.proofs.GrowLemmas.{Put}
-use Rattle.bank_values.proofs.settling.put_names.Given as goal
+use Rattle.bank_values.proofs.putting.put_names.Given as goal
 
 abbrev pub invariant-loop-name : goal.invariant-loop-name
 invariant-loop-name g l =

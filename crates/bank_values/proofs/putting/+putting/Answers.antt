@@ -2,7 +2,7 @@ use Rattle.std.proofs.Common.{◌∙◌}
 use Rattle.bank_values.specs.ReadBack.{node_at, IsNodeBelow}
 use Rattle.bank_values.proofs.GrowLemmas.{put_next}
 use Rattle.bank_values.proofs.StableLemmas.{stable_node, node_put}
-use Rattle.bank_values.proofs.settling.+putting.Goals as goal
+use Rattle.bank_values.proofs.putting.+putting.Goals as goal
 
 pub put_node-returns-clause-within : goal.put_node-returns-clause-within
 put_node-returns-clause-within g t c =
