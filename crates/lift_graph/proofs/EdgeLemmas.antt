@@ -1,9 +1,9 @@
 -- The edges to each vertex, in an order of the sources.
 use Rattle.std.proofs.Common.{◌≡◌, ◌<◌, ◌+◌, ◌==◌, ◌↔◌, ℕ, zero, suc, Bool, true, false, cond, List, [], ◌∷◌, Some, length, slice_get, refl, sym, ap, ◌∙◌, subst, inl, inr, arith, eq-eqb}
 use Rattle.std.specs.List.{All, Contains, flat_map}
-use Rattle.std.proofs.lemmas.Bool.{cases_lt}
+use Rattle.std.proofs.lemmas.Bool.{cases_lt, ne_eqb}
 use Rattle.std.proofs.lemmas.List.{get_or_default}
-use Rattle.std.proofs.lemmas.List.Elements.{All-append, All-nil, All-cons}
+use Rattle.std.proofs.lemmas.List.Elements.{All-append, All-nil, All-cons, All-head, All-tail}
 use Rattle.std.specs.declared.vec.Vec.{Vec}
 use Rattle.std.specs.declared.alloc.Global.{Global}
 use Rattle.lift_graph.specs.Rows.{is_set, items_at}
@@ -80,3 +80,18 @@ woven_rooted g inward keeps order graph all here within kept = record {
   within = within;
   born = λ v a l. let b = graph.born v a l in (b.0, b.1, woven_leads g.targets.items inward order b.0 v (all b.0 (let before = b.1 in omega arith)) (here v l) b.2);
 }
+
+none_to : (u k : ℕ) (ts : List ℕ) (n : ℕ) → All (λ t. (0 < t) × (t < n)) ts → places_to u k ts 0 ≡ []
+none_to u k [] n h = refl
+none_to u k (t ∷ ts) n h =
+    let positive = (All-head (λ t. (0 < t) × (t < n)) t ts h).0 in
+    let rest = none_to u (k + 1) ts n (All-tail (λ t. (0 < t) × (t < n)) t ts h) in
+    rw (ne_eqb t 0 (λ e. let z = e in omega arith)) rest
+
+none_from : (targets : List (Vec ℕ Global)) (order : List ℕ) (n : ℕ) → ((u : ℕ) → All (λ t. (0 < t) × (t < n)) (items_at targets u)) → places_from targets order 0 ≡ []
+none_from targets [] n h = refl
+none_from targets (u ∷ us) n h = let here = none_to u 0 (items_at targets u) n (h u) in let rest = none_from targets us n h in rw here rest
+
+-- no edge leads to the entry vertex
+pub woven_alone : (g : Graph) (inward : List (Vec Place Global)) (order : List ℕ) → IsGraph g → ((v : ℕ) → v < length g.keys.items → items_at inward v ≡ places_from g.targets.items order v) → items_at inward 0 ≡ []
+woven_alone g inward order graph here = here 0 (get_within g.keys.items 0 (record { address = graph.entry.0; tag = 0 }) graph.entry.1) ∙ none_from g.targets.items order (length g.keys.items) graph.within

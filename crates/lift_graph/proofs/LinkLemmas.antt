@@ -4,7 +4,7 @@ use Rattle.std.specs.List.{All, Contains}
 use Rattle.std.proofs.lemmas.Bool.{cases_eq, cases_lt}
 use Rattle.std.proofs.lemmas.List.{map-append, take_more}
 use Rattle.std.proofs.lemmas.List.Elements.{All-head, All-tail, All-nil, All-cons, All-weaker}
-use Rattle.lift_graph.specs.Rows.{items_at}
+use Rattle.lift_graph.specs.Rows.{is_set, items_at}
 use Rattle.lift_graph.specs.Graph.{IsGraph, IsListed, IsSquare, IsExtended, IsIndex}
 use Rattle.lift_graph.specs.Links.{tag_after, keys_after, IsRow, KeepsEdges, IsLinked, HasRow}
 use Rattle.lift_graph.specs.Search.{IsMember}
@@ -34,14 +34,14 @@ found_kept old new (r ∷ rs) (w ∷ ws) kept e =
     cc
 
 pub row_none : (g : Graph) (wanted : List Key) → IsRow g g (take 0 wanted) []
-row_none g wanted = record { extended = record { more = omega arith; keys = λ v k h. h; targets = λ u. refl }; found = refl; fresh = λ v a b. absurd (omega arith) }
+row_none g wanted = record { extended = record { more = omega arith; keys = λ v k h. h; targets = λ u. refl; inward = λ u. refl; keeps = λ u. refl }; found = refl; fresh = λ v a b. absurd (omega arith) }
 
 pub row_more : (old mid new : Graph) (wanted : List Key) (i : ℕ) (d : Key) (row : List ℕ) (v : ℕ) → i < length wanted → IsRow old mid (take i wanted) row → IsExtended mid new → slice_get new.keys.items v ≡ Some (get_or wanted i d) → (length new.keys.items ≡ length mid.keys.items) ⊎ ((v ≡ length mid.keys.items) × (length new.keys.items ≡ length mid.keys.items + 1)) → IsRow old new (take (i + 1) wanted) (row ++ v ∷ [])
 row_more old mid new wanted i d row v l r x found fresh =
     let more = x.more in
     let before = r.extended.more in
     record {
-      extended = record { more = omega arith; keys = λ u k h. x.keys u k (r.extended.keys u k h); targets = λ u. x.targets u ∙ r.extended.targets u };
+      extended = record { more = omega arith; keys = λ u k h. x.keys u k (r.extended.keys u k h); targets = λ u. x.targets u ∙ r.extended.targets u; inward = λ u. x.inward u ∙ r.extended.inward u; keeps = λ u. x.keeps u ∙ r.extended.keeps u };
       found =
           let w = get_or wanted i d in
           map-append (slice_get new.keys.items) row (v ∷ []) ∙ ap (λ xs. xs ++ slice_get new.keys.items v ∷ []) (found_kept mid.keys.items new.keys.items row (take i wanted) x.keys r.found) ∙ ap (λ o. map Some (take i wanted) ++ o ∷ []) found ∙ sym (map-append Some (take i wanted) (w ∷ [])) ∙ ap (map Some) (sym (take_more wanted i d l));
@@ -71,7 +71,7 @@ row_within keys (r ∷ rs) (w ∷ ws) e =
     let rest : map (slice_get keys) rs ≡ map Some ws = cc in
     All-cons (λ v. v < length keys) r rs (get_within keys r w here) (row_within keys rs ws rest)
 
-row_above : (keys : List Key) (address : ℕ) (row : List ℕ) (wanted : List Key) → slice_get keys 0 ≡ Some (record { address = address; tag = 0 }) → All (λ k. (0 < k.tag) × (k.tag + 1 < 2 ^ 64)) wanted → map (slice_get keys) row ≡ map Some wanted → All (λ v. (0 < v) × (v < length keys)) row
+pub row_above : (keys : List Key) (address : ℕ) (row : List ℕ) (wanted : List Key) → slice_get keys 0 ≡ Some (record { address = address; tag = 0 }) → All (λ k. (0 < k.tag) × (k.tag + 1 < 2 ^ 64)) wanted → map (slice_get keys) row ≡ map Some wanted → All (λ v. (0 < v) × (v < length keys)) row
 row_above keys address [] ws first above e = All-nil (λ v. (0 < v) × (v < length keys))
 row_above keys address (r ∷ rs) [] first above e = absurd (let f : ⊥ = cc in f)
 row_above keys address (r ∷ rs) (w ∷ ws) first above e =
@@ -135,4 +135,6 @@ linked_row old mid new vertex wanted row made has =
       kept = λ v k h. subst (λ x. slice_get x.items v ≡ Some k) (sym has.keys) (made.extended.keys v k h);
       led = ap (map (slice_get new.keys.items)) has.here ∙ ap (λ x. map (slice_get x.items) row) has.keys ∙ made.found;
       others = λ u n. has.others u n ∙ made.extended.targets u;
+      entry = has.entry ∙ made.extended.inward 0;
+      keeps = ap (λ x. is_set x.items 0) has.keeps ∙ made.extended.keeps 0;
     }

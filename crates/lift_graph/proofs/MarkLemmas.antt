@@ -37,6 +37,13 @@ is_set_push [] b v h = absurd (omega arith)
 is_set_push (x ∷ xs) b zero h = refl
 is_set_push (x ∷ xs) b (suc v) h = is_set_push xs b v (omega arith)
 
+-- a mark more that isn't set
+pub is_set_push_false : (marks : List Bool) (v : ℕ) → is_set (marks ++ false ∷ []) v ≡ is_set marks v
+is_set_push_false [] zero = refl
+is_set_push_false [] (suc v) = refl
+is_set_push_false (x ∷ xs) zero = refl
+is_set_push_false (x ∷ xs) (suc v) = is_set_push_false xs v
+
 pub is_set_last : (marks : List Bool) (b : Bool) (v : ℕ) → v ≡ length marks → is_set (marks ++ b ∷ []) v ≡ b
 is_set_last [] b zero h = refl
 is_set_last [] b (suc v) h = absurd (omega arith)

@@ -4,7 +4,7 @@ use Rattle.std.specs.List.{All, Contains}
 use Rattle.std.specs.Ordering.{nat_cmp, ordering_then}
 use Rattle.std.specs.declared.cmp.Ordering.{Ordering}
 use Rattle.std.specs.BTreeMap.{BTreeMap, get}
-use Rattle.lift_graph.specs.Rows.{items_at}
+use Rattle.lift_graph.specs.Rows.{is_set, items_at}
 use Rattle.lift_graph.specs.declared.graph.Key.{Key}
 use Rattle.lift_graph.specs.declared.graph.Graph.{Graph}
 
@@ -52,6 +52,8 @@ pub record IsExtended (old new : Graph) : Type 0 where
   pub more : length old.keys.items ≤ length new.keys.items
   pub keys : (v : ℕ) (k : Key) → slice_get old.keys.items v ≡ Some k → slice_get new.keys.items v ≡ Some k
   pub targets : (u : ℕ) → items_at new.targets.items u ≡ items_at old.targets.items u
+  pub inward : (u : ℕ) → items_at new.inward.items u ≡ items_at old.inward.items u
+  pub keeps : (u : ℕ) → is_set new.keeps.items u ≡ is_set old.keeps.items u
 
 -- the vertices and edges stayed
 pub record HasSameEdges (old new : Graph) : Type 0 where

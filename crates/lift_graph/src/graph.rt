@@ -90,7 +90,7 @@ impl Graph {
 }
 
 /// The vertex of a key, a new one without edges where there is none.
-#[tactic(auto, using(crate::proofs::IndexLemmas::index_more, crate::proofs::IndexLemmas::tags_more, crate::proofs::IndexLemmas::key_kept, crate::proofs::IndexLemmas::key_last, crate::proofs::RowLemmas::items_at_push))]
+#[tactic(auto, using(crate::proofs::IndexLemmas::index_more, crate::proofs::IndexLemmas::tags_more, crate::proofs::IndexLemmas::key_kept, crate::proofs::IndexLemmas::key_last, crate::proofs::RowLemmas::items_at_push, crate::proofs::MarkLemmas::is_set_push_false))]
 pub(crate) fn find_or_add(alloc: Global, graph: &mut Graph, key: Key) -> Result<usize, AllocError>
     requires listed { IsListed graph.old }
     requires fits { key.tag + 1 < 2 ^ 64 }

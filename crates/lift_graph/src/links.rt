@@ -115,8 +115,8 @@ fn make_edges(
 fn put_row(graph: &mut Graph, vertex: usize, row: Vec<usize>) -> Result<(), AllocError>
     requires square { IsSquare graph.old }
     requires vertex { vertex < length graph.old.keys.items }
-    requires within { All (λ v. v < length graph.old.keys.items) row.items }
-    requires before { All (λ v. v < length graph.old.keys.items) (items_at graph.old.targets.items vertex) }
+    requires within { All (λ v. (0 < v) × (v < length graph.old.keys.items)) row.items }
+    requires before { All (λ v. (0 < v) × (v < length graph.old.keys.items)) (items_at graph.old.targets.items vertex) }
     ensures square { OnOk result (IsSquare graph.new) }
     ensures targets { OnOk result (HasRow graph.old graph.new vertex row.items) }
 {
@@ -131,15 +131,17 @@ fn put_row(graph: &mut Graph, vertex: usize, row: Vec<usize>) -> Result<(), Allo
 }
 
 /// Puts the edges of a vertex at their targets, behind those that are there.
+#[tactic(auto, using(crate::proofs::RowLemmas::items_at_set_other))]
 fn note_edges(
     inward: &mut Vec<Vec<Place>>,
     vertex: usize,
     before: &[usize],
     row: &[usize],
 ) -> Result<(), AllocError>
-    requires before { All (λ v. v < length inward.old.items) before.now }
-    requires row { All (λ v. v < length inward.old.items) row.now }
-    ensures { OnOk result (length inward.new.items ≡ length inward.old.items) }
+    requires before { All (λ v. (0 < v) × (v < length inward.old.items)) before.now }
+    requires row { All (λ v. (0 < v) × (v < length inward.old.items)) row.now }
+    ensures rows { OnOk result (length inward.new.items ≡ length inward.old.items) }
+    ensures entry { OnOk result (items_at inward.new.items 0 ≡ items_at inward.old.items 0) }
 {
     let mut first = before.len();
     if !row.starts_with(before) {
@@ -153,9 +155,11 @@ fn note_edges(
 }
 
 /// Takes the edges of a vertex from their targets.
+#[tactic(auto, using(crate::proofs::RowLemmas::items_at_set_other))]
 fn drop_edges(inward: &mut Vec<Vec<Place>>, vertex: usize, row: &[usize])
-    requires { All (λ v. v < length inward.old.items) row.now }
-    ensures { length inward.new.items ≡ length inward.old.items }
+    requires { All (λ v. (0 < v) × (v < length inward.old.items)) row.now }
+    ensures rows { length inward.new.items ≡ length inward.old.items }
+    ensures entry { items_at inward.new.items 0 ≡ items_at inward.old.items 0 }
 {
     for target in row {
         inward[*target].retain(|place| place.vertex != vertex);

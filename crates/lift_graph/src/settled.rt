@@ -1,8 +1,8 @@
-ghost use Rattle.std.specs.Prelude.{◌≡◌, ◌<◌, ◌↔◌, ℕ, List, true, length, OnOk};
+ghost use Rattle.std.specs.Prelude.{◌≡◌, ◌<◌, ◌↔◌, [], ℕ, List, true, length, OnOk};
 ghost use Rattle.lift_graph.specs.Edges.{IsWoven};
 ghost use Rattle.lift_graph.specs.Graph.{HasSameEdges, IsGraph};
 ghost use Rattle.lift_graph.specs.Heads.{IsKept, IsRooted};
-ghost use Rattle.lift_graph.specs.Rows.{is_set};
+ghost use Rattle.lift_graph.specs.Rows.{is_set, items_at};
 
 use crate::graph::Graph;
 use crate::heads::kept_vertices;
@@ -19,6 +19,7 @@ pub fn settle_edges(alloc: Global, graph: &mut Graph) -> Result<(), NoMemory>
     ensures same { OnOk result (HasSameEdges graph.old graph.new) }
     ensures woven { OnOk result ((order : List ℕ) × IsWoven graph.new order) }
     ensures kept { OnOk result ((v : ℕ) → v < length graph.new.keys.items → (is_set graph.new.keeps.items v ≡ true) ↔ IsKept graph.new.keys.items graph.new.inward.items v) }
+    ensures alone { OnOk result (items_at graph.new.inward.items 0 ≡ []) }
     ensures rooted { OnOk result (IsRooted graph.new.inward.items graph.new.keeps.items (length graph.new.keys.items)) }
 {
     let n = graph.len();

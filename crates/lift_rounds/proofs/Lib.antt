@@ -1,0 +1,12 @@
+pub mod GatherLemmas
+pub mod ReadingLemmas
+pub mod RoundLemmas
+pub mod VisitLemmas
+pub mod StepLemmas
+pub mod EndLemmas
+pub mod StuckLemmas
+pub mod LawLemmas
+pub mod CalmLemmas
+pub mod FillLemmas
+pub mod AddressLemmas
+pub mod FirstLemmas

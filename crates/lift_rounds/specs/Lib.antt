@@ -1,0 +1,5 @@
+pub mod Meaning
+pub mod Known
+pub mod Visit
+pub mod Round
+pub mod Settled
