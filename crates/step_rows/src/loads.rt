@@ -1,8 +1,7 @@
-use crate::rows::{Case, More, Row, expect_rows, row};
+use crate::rows::{Case, More, Row, row};
 use crate::sample::Facts;
-use std::test::Fail;
 
-static NAMED: [Row; 17] = [
+pub static NAMED: [Row; 17] = [
     row!("mov eax, [rdi], nothing known"; b"\x8b\x07"; "step"; "" "" "" "" =>
         0x40_007a "rax=zx32(v400078)" "" "" "[rdi0;4]=zx32(v400078)" [More::Register(0, "rax=v400078")]),
     row!("mov eax, [rdi], a cell without a value"; b"\x8b\x07"; "step"; "" "" "" "[rdi0;4]" =>
@@ -39,7 +38,7 @@ static NAMED: [Row; 17] = [
         0x40_007b "rdi=v400078" "" "" "[rdi0;8]=v400078" []),
 ];
 
-static FIXED: [Row; 6] = [
+pub static FIXED: [Row; 6] = [
     row!("mov rax, [0x4000b0]"; b"\x48\x8b\x04\x25\xb0\0\x40\0"; "step"; "" "" "" "[0x4000b0;8]=5" =>
         0x40_0080 "rax=0x400010" "" "" "[0x4000b0;8]=5" []),
     row!("mov eax, [rip+0x32]"; b"\x8b\x05\x32\0\0\0"; "step"; "" "" "" "" =>
@@ -54,7 +53,7 @@ static FIXED: [Row; 6] = [
         0x40_007c "rax=0xffffffffffff8001 rdi=0x4000dc" "" "" "" []),
 ];
 
-static OTHERS: [Row; 10] = [
+pub static OTHERS: [Row; 10] = [
     row!("cmp dword [rdi], 3"; b"\x83\x3f\x03"; "step"; "" "" "" "" =>
         0x40_007b "" "32 zx32(v400078) 3" "" "[rdi0;4]=zx32(v400078)" []),
     row!("cmp dword [rdi], 3, at an unknown address"; b"\x83\x3f\x03"; "step"; "rdi=?" "" "" "[rsp0;8]=ra" =>
@@ -76,10 +75,3 @@ static OTHERS: [Row; 10] = [
     row!("mul dword [rdi]"; b"\xf7\x27"; "step"; "" "" "" "" =>
         0x40_007a "rax=v400078 rdx=?" "" "" "" [More::Cell(0, "[rdi0;4]")]),
 ];
-
-#[test]
-fn a_load_is_fixed_bytes_or_a_cells_value_or_the_name(rt: HostRuntime) -> Result<(), Fail> {
-    expect_rows(rt.alloc(), &NAMED)?;
-    expect_rows(rt.alloc(), &FIXED)?;
-    expect_rows(rt.alloc(), &OTHERS)
-}

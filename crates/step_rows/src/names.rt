@@ -1,8 +1,7 @@
-use crate::rows::{Case, More, Row, expect_rows, row};
+use crate::rows::{Case, More, Row, row};
 use crate::sample::Facts;
-use std::test::Fail;
 
-static ROWS: [Row; 9] = [
+pub static ROWS: [Row; 9] = [
     row!("nop drops what mentions its name"; b"\x90"; "step";
         "rcx=zx32(v400078) rbx=v400078+1" "64 rdi0 v400078" "v400078 0..3\nb zx32(v400078) 0..3"
         "[rsp0;8]=v400078\nc .[rsp0;4]=3\nc [v400078;8]=5" =>
@@ -33,8 +32,3 @@ static ROWS: [Row; 9] = [
         0x40_007a "rbx=?" "" "" "" [More::Register(3, "rbx=v400078"), More::Flags("32 zx32(rdi0) 3"),
             More::Flags("32 zx32(rax0) zx32(v400078)")]),
 ];
-
-#[test]
-fn each_fact_that_mentions_the_sites_name_goes(rt: HostRuntime) -> Result<(), Fail> {
-    expect_rows(rt.alloc(), &ROWS)
-}

@@ -1,9 +1,8 @@
-use crate::rows::{Case, More, Row, expect_rows, row};
+use crate::rows::{Case, More, Row, row};
 use crate::sample::Facts;
-use std::test::Fail;
 
 // zx32(rdi0) against 3, by each condition.
-static CONDITIONS: [Row; 14] = [
+pub static CONDITIONS: [Row; 14] = [
     row!("o"; b"\x70\x05"; "step"; "" "32 zx32(rdi0) 3" "" "" =>
         0x40_007f "" "32 zx32(rdi0) 3" "" "" [More::Bound(0, "zx32(rdi0) 0..0xfffffffe")];
         0x40_007a "" "32 zx32(rdi0) 3" "" "" [More::Bound(0, "zx32(rdi0) 0..0xfffffffe")]),
@@ -49,7 +48,7 @@ static CONDITIONS: [Row; 14] = [
 ];
 
 // Numbers at the ends of the width.
-static ENDS: [Row; 10] = [
+pub static ENDS: [Row; 10] = [
     row!("b, 0"; b"\x72\x05"; "step"; "" "32 zx32(rdi0) 0" "" "" =>
         0x40_007f "" "32 zx32(rdi0) 0" "" "" [More::Bound(0, "zx32(rdi0) 0..0xfffffffe")];
         0x40_007a "" "32 zx32(rdi0) 0" "" "" [More::Bound(0, "zx32(rdi0) 0..0xffffffff")]),
@@ -81,7 +80,7 @@ static ENDS: [Row; 10] = [
 ];
 
 // Flags that tell nothing, and bounds that stand already.
-static OTHERS: [Row; 9] = [
+pub static OTHERS: [Row; 9] = [
     row!("no flags"; b"\x74\x05"; "step"; "" "" "" "" => 0x40_007f "" "" "" "" []; 0x40_007a "" "" "" "" []),
     row!("a number on the left"; b"\x74\x05"; "step"; "" "32 3 zx32(rdi0)" "" "" =>
         0x40_007f "" "32 3 zx32(rdi0)" "" "" [More::Bound(0, "zx32(rdi0) 3..3")]; 0x40_007a "" "32 3 zx32(rdi0)" "" "" []),
@@ -103,10 +102,3 @@ static OTHERS: [Row; 9] = [
     row!("je to the next address"; b"\x74\0"; "step"; "" "64 rsi0 3" "" "" =>
         0x40_007a "" "64 rsi0 3" "rsi0 3..3" "" []; 0x40_007a "" "64 rsi0 3" "" "" []),
 ];
-
-#[test]
-fn a_condition_bounds_what_was_compared_with_a_number(rt: HostRuntime) -> Result<(), Fail> {
-    expect_rows(rt.alloc(), &CONDITIONS)?;
-    expect_rows(rt.alloc(), &ENDS)?;
-    expect_rows(rt.alloc(), &OTHERS)
-}

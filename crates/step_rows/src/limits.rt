@@ -1,9 +1,8 @@
-use crate::rows::{Case, More, Row, expect_rows, row};
+use crate::rows::{Case, More, Row, row};
 use crate::sample::Facts;
-use std::test::Fail;
 
 // v1 to v1e are thirty names, of which a sum has 31 nodes.
-static NODES: [Row; 9] = [
+pub static NODES: [Row; 9] = [
     row!("a sum of 32 nodes"; b"\x48\x01\xd8"; "step";
         "rax=v1+v2+v3+v4+v5+v6+v7+v8+v9+va+vb+vc+vd+ve+vf+v10+v11+v12+v13+v14+v15+v16+v17+v18+v19+v1a+v1b+v1c+v1d+v1e"
         "" "" "" => 0x40_007b
@@ -50,7 +49,7 @@ rbx=v1+v2+v3+v4+v5+v6+v7+v8+v9+va+vb+vc+vd+ve+vf+v10+v11+v12+v13+v14+v15+v16+v17
         0x40_007a "" "" "" "" []),
 ];
 
-static BOUNDS: [Row; 6] = [
+pub static BOUNDS: [Row; 6] = [
     row!("a sixteenth bound"; b"\x74\x05"; "step"; "" "64 rdi0 3"
         "v1 0..1\nb v2 0..1\nb v3 0..1\nb v4 0..1\nb v5 0..1\nb v6 0..1\nb v7 0..1\nb v8 0..1\nb v9 0..1\nb va 0..1\
 \nb vb 0..1\nb vc 0..1\nb vd 0..1\nb ve 0..1\nb vf 0..1" "" =>
@@ -80,7 +79,7 @@ static BOUNDS: [Row; 6] = [
 ];
 
 // Cells one beside the other from the entry's stack pointer up.
-static CELLS: [Row; 5] = [
+pub static CELLS: [Row; 5] = [
     row!("a 64th cell"; b"\x53"; "step"; "" "" ""
         "[rsp0;8]\nc [rsp0+8;8]\nc [rsp0+16;8]\nc [rsp0+24;8]\nc [rsp0+32;8]\nc [rsp0+40;8]\nc [rsp0+48;8]\
 \nc [rsp0+56;8]\nc [rsp0+64;8]\nc [rsp0+72;8]\nc [rsp0+80;8]\nc [rsp0+88;8]\nc [rsp0+96;8]\nc [rsp0+104;8]\
@@ -148,18 +147,3 @@ static CELLS: [Row; 5] = [
         0x40_007d "" "" "" "[rsp0+4;8]=rdi0\nc [rsp0+16;8]\nc [rsp0+504;8]" [
             More::Cell(0, "[rsp0;8]\nc [rsp0+4;8]=rdi0"), More::Cell(1, "[rsp0+4;8]=rdi0\nc [rsp0+8;8]")]),
 ];
-
-#[test]
-fn a_term_over_32_nodes_is_unknown(rt: HostRuntime) -> Result<(), Fail> {
-    expect_rows(rt.alloc(), &NODES)
-}
-
-#[test]
-fn there_are_at_most_16_bounds(rt: HostRuntime) -> Result<(), Fail> {
-    expect_rows(rt.alloc(), &BOUNDS)
-}
-
-#[test]
-fn there_are_at_most_64_cells(rt: HostRuntime) -> Result<(), Fail> {
-    expect_rows(rt.alloc(), &CELLS)
-}

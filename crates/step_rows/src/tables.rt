@@ -1,9 +1,8 @@
-use crate::rows::{Case, More, Row, expect_rows, row};
+use crate::rows::{Case, More, Row, row};
 use crate::sample::Facts;
-use std::test::Fail;
 
 // Loads of an entry of the tables at 0x4000b0, 0x4000d0 and 0x4000dc.
-static LOADS: [Row; 20] = [
+pub static LOADS: [Row; 20] = [
     row!("mov rax, [rdi*8+0x4000b0]"; b"\x48\x8b\x04\xfd\xb0\0\x40\0"; "step"; "" "" "rdi0 0..3" "" =>
         0x40_0080 "rax=v400078" "" "rdi0 0..3\nb v400078 {0x400010,0x400011,0x400012}" "[8*rdi0+0x4000b0;8]=v400078" [
             More::Bound(1, "rdi0 0..3\nb v400078 {0x400010,0x400011}")]),
@@ -57,7 +56,7 @@ static LOADS: [Row; 20] = [
             More::Bound(1, "rdi0 1..1\nb v400078 5..6")]),
 ];
 
-static JUMPS: [Row; 20] = [
+pub static JUMPS: [Row; 20] = [
     row!("jmp [rdi*8+0x4000b0]"; b"\xff\x24\xfd\xb0\0\x40\0"; "step"; "rbx=v400078" "" "rdi0 0..3" "" =>
         0x40_0010 "rbx=?" "" "rdi0 0..3\nb v400078 {0x400010,0x400011,0x400012}" "[8*rdi0+0x4000b0;8]=v400078" [];
         0x40_0011 "rbx=?" "" "rdi0 0..3\nb v400078 {0x400010,0x400011,0x400012}" "[8*rdi0+0x4000b0;8]=v400078" [];
@@ -95,13 +94,3 @@ static JUMPS: [Row; 20] = [
         0x40_0012 "" "" "" "[rdi0;8]=0x400012" []),
     row!("jmp [rdi], nothing known"; b"\xff\x27"; "step"; "" "" "" "" => unresolved),
 ];
-
-#[test]
-fn a_load_of_a_tables_entry_bounds_the_name(rt: HostRuntime) -> Result<(), Fail> {
-    expect_rows(rt.alloc(), &LOADS)
-}
-
-#[test]
-fn a_jump_leads_where_a_number_a_table_or_a_list_says(rt: HostRuntime) -> Result<(), Fail> {
-    expect_rows(rt.alloc(), &JUMPS)
-}

@@ -4,91 +4,14 @@ ghost use Rattle.step_rules.specs.Cases.{cases as cases_of};
 ghost use Rattle.step_values.specs.Views.{view_of};
 ghost use Rattle.x86_instr.specs.Fits.{InForm};
 
-use crate::sample::{Facts, graph, image, instruction, site_of, site_view, vertex_of};
 use predicates::{Conjunct, Pred, SiteView};
 use std::alloc::Global;
 use std::test::Fail;
+use step_rows::rows::{Case, Row, with_more};
+use step_rows::sample::{Facts, graph, image, instruction, site_of, site_view, vertex_of};
+use step_rows::{branches, calls, limits, loads, names, results, stack, stores, tables};
 use sym_step::{case_addresses, holds_edge};
 use x86_instr::Instr;
-
-/// What is not known at a case: a register, the flags, a bound or a cell by its place, with the line or the lines that
-/// would say it.
-pub enum More {
-    Register(u8, &'static str),
-    Flags(&'static str),
-    Bound(u32, &'static str),
-    Cell(u32, &'static str),
-}
-
-/// A case: its address, what is known there, and what is not.
-pub struct Case {
-    pub address: u64,
-    pub known: Facts,
-    pub unknown: &'static [More],
-}
-
-/// An instruction at a site, from a predicate, and its cases; none where they are not known.
-pub struct Row {
-    pub what: &'static str,
-    pub code: &'static [u8],
-    pub site: &'static str,
-    pub before: Facts,
-    pub cases: Option<&'static [Case]>,
-}
-
-/// A row: what it shows; bytes; the site; registers, flags, bounds and cells before; for each case its address and the
-/// same four after, and what is not known.
-macro_rules! row {
-    ($what:literal; $code:literal; $site:literal; $r:literal $z:literal $b:literal $c:literal => unresolved) => {
-        Row {
-            what: $what,
-            code: $code,
-            site: $site,
-            before: Facts { registers: $r, flags: $z, bounds: $b, cells: $c },
-            cases: None,
-        }
-    };
-    ($what:literal; $code:literal; $site:literal; $r:literal $z:literal $b:literal $c:literal =>
-     $($address:literal $rs:literal $zs:literal $bs:literal $cs:literal [$($more:expr),*]);*) => {
-        Row {
-            what: $what,
-            code: $code,
-            site: $site,
-            before: Facts { registers: $r, flags: $z, bounds: $b, cells: $c },
-            cases: Some(&[$(Case {
-                address: $address,
-                known: Facts { registers: $rs, flags: $zs, bounds: $bs, cells: $cs },
-                unknown: &[$($more),*],
-            }),*]),
-        }
-    };
-}
-
-pub(crate) use row;
-
-// The facts with one more, and the conjunct that it makes.
-fn with_more(known: Facts, more: &More) -> (Facts, Conjunct) {
-    let mut facts = known;
-    let conjunct = match more {
-        More::Register(register, line) => {
-            facts.registers = line;
-            Conjunct::Register(*register)
-        }
-        More::Flags(line) => {
-            facts.flags = line;
-            Conjunct::Flags
-        }
-        More::Bound(place, lines) => {
-            facts.bounds = lines;
-            Conjunct::Bound(*place)
-        }
-        More::Cell(place, lines) => {
-            facts.cells = lines;
-            Conjunct::Cell(*place)
-        }
-    };
-    (facts, conjunct)
-}
 
 /// The calls on one predicate at one site.
 #[derive(Drop)]
@@ -163,8 +86,8 @@ fn is_row(alloc: Global, tried: &Tried, row: &Row) -> Result<bool, Fail>
     }
 }
 
-/// Tries each row.
-pub fn expect_rows(alloc: Global, rows: &[Row]) -> Result<(), Fail> {
+// Tries each row.
+fn expect_rows(alloc: Global, rows: &[Row]) -> Result<(), Fail> {
     let image = image(alloc)?;
     for row in rows {
         let graph = graph(alloc, row.site, row.before)?;
@@ -179,4 +102,90 @@ pub fn expect_rows(alloc: Global, rows: &[Row]) -> Result<(), Fail> {
         }
     }
     Ok(())
+}
+
+#[test]
+fn a_condition_bounds_what_was_compared_with_a_number(rt: HostRuntime) -> Result<(), Fail> {
+    expect_rows(rt.alloc(), &branches::CONDITIONS)?;
+    expect_rows(rt.alloc(), &branches::ENDS)?;
+    expect_rows(rt.alloc(), &branches::OTHERS)
+}
+
+#[test]
+fn what_is_known_after_a_call_and_a_system_call(rt: HostRuntime) -> Result<(), Fail> {
+    expect_rows(rt.alloc(), &calls::CALLS)?;
+    expect_rows(rt.alloc(), &calls::SYSTEM)
+}
+
+#[test]
+fn a_term_over_32_nodes_is_unknown(rt: HostRuntime) -> Result<(), Fail> {
+    expect_rows(rt.alloc(), &limits::NODES)
+}
+
+#[test]
+fn there_are_at_most_16_bounds(rt: HostRuntime) -> Result<(), Fail> {
+    expect_rows(rt.alloc(), &limits::BOUNDS)
+}
+
+#[test]
+fn there_are_at_most_64_cells(rt: HostRuntime) -> Result<(), Fail> {
+    expect_rows(rt.alloc(), &limits::CELLS)
+}
+
+#[test]
+fn a_load_is_fixed_bytes_or_a_cells_value_or_the_name(rt: HostRuntime) -> Result<(), Fail> {
+    expect_rows(rt.alloc(), &loads::NAMED)?;
+    expect_rows(rt.alloc(), &loads::FIXED)?;
+    expect_rows(rt.alloc(), &loads::OTHERS)
+}
+
+#[test]
+fn each_fact_that_mentions_the_sites_name_goes(rt: HostRuntime) -> Result<(), Fail> {
+    expect_rows(rt.alloc(), &names::ROWS)
+}
+
+#[test]
+fn results_and_flags_of_arithmetic(rt: HostRuntime) -> Result<(), Fail> {
+    expect_rows(rt.alloc(), &results::SUMS)?;
+    expect_rows(rt.alloc(), &results::BITS)?;
+    expect_rows(rt.alloc(), &results::PRODUCTS)?;
+    expect_rows(rt.alloc(), &results::SHIFTS)
+}
+
+#[test]
+fn moves_of_registers_memory_and_the_stack(rt: HostRuntime) -> Result<(), Fail> {
+    expect_rows(rt.alloc(), &results::MOVES)?;
+    expect_rows(rt.alloc(), &results::MORE_MOVES)
+}
+
+#[test]
+fn exchanges_at_each_width(rt: HostRuntime) -> Result<(), Fail> {
+    expect_rows(rt.alloc(), &results::EXCHANGES)
+}
+
+#[test]
+fn push_pop_and_leave(rt: HostRuntime) -> Result<(), Fail> {
+    expect_rows(rt.alloc(), &stack::PUSHES)?;
+    expect_rows(rt.alloc(), &stack::POPS)
+}
+
+#[test]
+fn a_store_gives_its_cell_a_value_and_takes_what_may_overlap(rt: HostRuntime) -> Result<(), Fail> {
+    expect_rows(rt.alloc(), &stores::STORES)?;
+    expect_rows(rt.alloc(), &stores::CHANGES)
+}
+
+#[test]
+fn a_pair_told_apart_has_three_cases(rt: HostRuntime) -> Result<(), Fail> {
+    expect_rows(rt.alloc(), &stores::PAIRS)
+}
+
+#[test]
+fn a_load_of_a_tables_entry_bounds_the_name(rt: HostRuntime) -> Result<(), Fail> {
+    expect_rows(rt.alloc(), &tables::LOADS)
+}
+
+#[test]
+fn a_jump_leads_where_a_number_a_table_or_a_list_says(rt: HostRuntime) -> Result<(), Fail> {
+    expect_rows(rt.alloc(), &tables::JUMPS)
 }

@@ -1,8 +1,7 @@
-use crate::rows::{Case, More, Row, expect_rows, row};
+use crate::rows::{Case, More, Row, row};
 use crate::sample::Facts;
-use std::test::Fail;
 
-static CALLS: [Row; 8] = [
+pub static CALLS: [Row; 8] = [
     row!("call, one region kept"; b"\xe8\xfb\xff\xff\xff"; "call 400078\nk [rsp0;8]"; "" "" "" "[rsp0;8]=ra" =>
         0x40_007d "rax=v400078 rcx=? rdx=? rsi=? rdi=? r8=? r9=? r10=? r11=?" "" "" "[rsp0;8]=ra\nc [rsp0-8;8]" [
             More::Register(1, "rax=v400078 rdx=? rsi=? rdi=? r8=? r9=? r10=? r11=?"),
@@ -35,7 +34,7 @@ static CALLS: [Row; 8] = [
         0x40_007d "rax=v400078 rcx=? rdx=? rsi=? rdi=? r8=? r9=? r10=? r11=?" "" "" "[rsp0-8;8]=0x40007d" []),
 ];
 
-static SYSTEM: [Row; 3] = [
+pub static SYSTEM: [Row; 3] = [
     row!("syscall"; b"\x0f\x05"; "outside\nk [rsp0;8]"; "rbx=5" "64 rdi0 3" "rdi0 0..3" "[rsp0;8]=ra\nc [rsp0-8;8]=rbx0" =>
         0x40_007a "rax=v400078 rcx=? rbx=5 r11=?" "" "rdi0 0..3" "[rsp0;8]=ra\nc [rsp0-8;8]" [
             More::Register(1, "rax=v400078 rbx=5 r11=?"), More::Register(11, "rax=v400078 rcx=? rbx=5"),
@@ -47,9 +46,3 @@ static SYSTEM: [Row; 3] = [
         0x40_007a "rax=v400078 rcx=? rbx=? r11=?" "" "" "" [
             More::Register(3, "rax=v400078 rcx=? rbx=v400078 r11=?"), More::Bound(0, "v400078 0..3")]),
 ];
-
-#[test]
-fn what_is_known_after_a_call_and_a_system_call(rt: HostRuntime) -> Result<(), Fail> {
-    expect_rows(rt.alloc(), &CALLS)?;
-    expect_rows(rt.alloc(), &SYSTEM)
-}

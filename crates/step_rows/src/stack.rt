@@ -1,8 +1,7 @@
-use crate::rows::{Case, More, Row, expect_rows, row};
+use crate::rows::{Case, More, Row, row};
 use crate::sample::Facts;
-use std::test::Fail;
 
-static PUSHES: [Row; 9] = [
+pub static PUSHES: [Row; 9] = [
     row!("push rbx"; b"\x53"; "step"; "" "32 zx32(rdi0) 3" "" "[rsp0;8]=ra" =>
         0x40_0079 "rsp=rsp0-8" "32 zx32(rdi0) 3" "" "[rsp0;8]=ra\nc [rsp0-8;8]=rbx0" []),
     row!("push rsp"; b"\x54"; "step"; "" "" "" "" => 0x40_0079 "rsp=rsp0-8" "" "" "[rsp0-8;8]=rsp0" []),
@@ -22,7 +21,7 @@ static PUSHES: [Row; 9] = [
         0x40_007b "rsp=rsp0-8" "" "" "[rsp0;8]=ra\nc [rsp0-8;8]=ra" []),
 ];
 
-static POPS: [Row; 9] = [
+pub static POPS: [Row; 9] = [
     row!("pop rbx, a value"; b"\x5b"; "step"; "" "32 zx32(rdi0) 3" "" "[rsp0;8]=ra" =>
         0x40_0079 "rbx=ra rsp=rsp0+8" "32 zx32(rdi0) 3" "" "[rsp0;8]=ra" []),
     row!("pop rbx, nothing known"; b"\x5b"; "step"; "" "" "" "" =>
@@ -45,9 +44,3 @@ static POPS: [Row; 9] = [
     row!("leave, of fixed bytes"; b"\xc9"; "step"; "rbp=0x4000b0" "" "" "" =>
         0x40_0079 "rsp=0x4000b8 rbp=0x400010" "" "" "" []),
 ];
-
-#[test]
-fn push_pop_and_leave(rt: HostRuntime) -> Result<(), Fail> {
-    expect_rows(rt.alloc(), &PUSHES)?;
-    expect_rows(rt.alloc(), &POPS)
-}

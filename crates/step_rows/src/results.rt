@@ -1,9 +1,8 @@
-use crate::rows::{Case, More, Row, expect_rows, row};
+use crate::rows::{Case, More, Row, row};
 use crate::sample::Facts;
-use std::test::Fail;
 
 // Each begins with the flags of zx32(rdi0) against 3, which only some instructions leave.
-static SUMS: [Row; 20] = [
+pub static SUMS: [Row; 20] = [
     row!("add eax, ebx"; b"\x01\xd8"; "step"; "" "32 zx32(rdi0) 3" "" "" =>
         0x40_007a "rax=zx32(zx32(rax0)+zx32(rbx0))" "" "" "" [More::Flags("32 zx32(rdi0) 3"), More::Register(0, "")]),
     row!("add rax, rbx"; b"\x48\x01\xd8"; "step"; "" "32 zx32(rdi0) 3" "" "" =>
@@ -40,7 +39,7 @@ static SUMS: [Row; 20] = [
     row!("inc bh"; b"\xfe\xc7"; "step"; "" "" "" "" => 0x40_007a "rbx=v400078" "" "" "" [More::Register(3, "")]),
 ];
 
-static BITS: [Row; 11] = [
+pub static BITS: [Row; 11] = [
     row!("and eax, ebx"; b"\x21\xd8"; "step"; "" "" "" "" => 0x40_007a
         "rax=zx32(and(zx32(rax0),zx32(rbx0)))" "32 zx32(and(zx32(rax0),zx32(rbx0))) 0" "" "" []),
     row!("or eax, eax"; b"\x09\xc0"; "step"; "" "" "" "" => 0x40_007a "rax=zx32(rax0)" "32 zx32(rax0) 0" "" "" []),
@@ -61,7 +60,7 @@ static BITS: [Row; 11] = [
     row!("test al, 0x81"; b"\xa8\x81"; "step"; "" "" "" "" => 0x40_007a "" "8 zx8(and(zx8(rax0),129)) 0" "" "" []),
 ];
 
-static PRODUCTS: [Row; 8] = [
+pub static PRODUCTS: [Row; 8] = [
     row!("imul eax, ebx"; b"\x0f\xaf\xc3"; "step"; "" "32 zx32(rdi0) 3" "" "" =>
         0x40_007b "rax=zx32(mul(zx32(rax0),zx32(rbx0)))" "" "" "" [More::Flags("32 zx32(rdi0) 3")]),
     row!("imul eax, ecx, -2"; b"\x6b\xc1\xfe"; "step"; "" "32 zx32(rdi0) 3" "" "" =>
@@ -79,7 +78,7 @@ static PRODUCTS: [Row; 8] = [
         0x40_007b "rax=v400078 rdx=?" "" "" "" [More::Register(2, "rax=v400078 rdx=v400078")]),
 ];
 
-static SHIFTS: [Row; 11] = [
+pub static SHIFTS: [Row; 11] = [
     row!("shl eax, 3"; b"\xc1\xe0\x03"; "step"; "" "32 zx32(rdi0) 3" "" "" =>
         0x40_007b "rax=zx32(8*zx32(rax0))" "" "" "" [More::Flags("32 zx32(rdi0) 3")]),
     row!("shl eax, 35"; b"\xc1\xe0\x23"; "step"; "" "" "" "" => 0x40_007b "rax=zx32(8*zx32(rax0))" "" "" "" []),
@@ -99,21 +98,8 @@ static SHIFTS: [Row; 11] = [
         0x40_007b "" "" "" "[rdi0;1]=128" []),
 ];
 
-#[test]
-fn results_and_flags_of_arithmetic(rt: HostRuntime) -> Result<(), Fail> {
-    for rows in [
-        SUMS.as_slice(),
-        BITS.as_slice(),
-        PRODUCTS.as_slice(),
-        SHIFTS.as_slice(),
-    ] {
-        expect_rows(rt.alloc(), rows)?;
-    }
-    Ok(())
-}
-
 // Each keeps the flags of zx32(rdi0) against 3.
-static MOVES: [Row; 16] = [
+pub static MOVES: [Row; 16] = [
     row!("mov eax, 5"; b"\xb8\x05\0\0\0"; "step"; "" "32 zx32(rdi0) 3" "" "" =>
         0x40_007d "rax=5" "32 zx32(rdi0) 3" "" "" [More::Register(0, "rax=v400078")]),
     row!("mov rax, -1"; b"\x48\xc7\xc0\xff\xff\xff\xff"; "step"; "" "" "" "" => 0x40_007f "rax=-1" "" "" "" []),
@@ -139,7 +125,7 @@ static MOVES: [Row; 16] = [
         0x40_007d "rax=8*rsi0+rdi0+16" "" "" "" []),
 ];
 
-static MORE_MOVES: [Row; 16] = [
+pub static MORE_MOVES: [Row; 16] = [
     row!("lea eax, [rdi+1]"; b"\x8d\x47\x01"; "step"; "" "" "" "" => 0x40_007b "rax=zx32(rdi0+1)" "" "" "" []),
     row!("lea rax, [rdi+1], unknown"; b"\x48\x8d\x47\x01"; "step"; "rdi=?" "" "" "[rsp0;8]=ra" =>
         0x40_007c "rax=v400078 rdi=?" "" "" "[rsp0;8]=ra" []),
@@ -165,7 +151,7 @@ static MORE_MOVES: [Row; 16] = [
     row!("int3"; b"\xcc"; "step"; "" "" "" "" => ),
 ];
 
-static EXCHANGES: [Row; 13] = [
+pub static EXCHANGES: [Row; 13] = [
     row!("xchg rax, rbx"; b"\x48\x87\xd8"; "step"; "" "32 zx32(rdi0) 3" "" "" =>
         0x40_007b "rax=rbx0 rbx=rax0" "32 zx32(rdi0) 3" "" "" []),
     row!("xchg eax, ebx"; b"\x87\xd8"; "step"; "" "" "" "" => 0x40_007a "rax=zx32(rbx0) rbx=zx32(rax0)" "" "" "" []),
@@ -191,14 +177,3 @@ static EXCHANGES: [Row; 13] = [
     row!("xchg [rdi], ax, unknown"; b"\x66\x87\x07"; "step"; "rax=?" "" "" "[rdi0;2]=5" =>
         0x40_007b "rax=v400078" "" "" "[rdi0;2]" [More::Cell(0, "[rdi0;2]=5"), More::Register(0, "rax=5")]),
 ];
-
-#[test]
-fn moves_of_registers_memory_and_the_stack(rt: HostRuntime) -> Result<(), Fail> {
-    expect_rows(rt.alloc(), &MOVES)?;
-    expect_rows(rt.alloc(), &MORE_MOVES)
-}
-
-#[test]
-fn exchanges_at_each_width(rt: HostRuntime) -> Result<(), Fail> {
-    expect_rows(rt.alloc(), &EXCHANGES)
-}

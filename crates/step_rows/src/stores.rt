@@ -1,8 +1,7 @@
-use crate::rows::{Case, More, Row, expect_rows, row};
+use crate::rows::{Case, More, Row, row};
 use crate::sample::Facts;
-use std::test::Fail;
 
-static STORES: [Row; 17] = [
+pub static STORES: [Row; 17] = [
     row!("mov [rsp-8], rdi"; b"\x48\x89\x7c\x24\xf8"; "step"; "" "" "" "[rsp0;8]=ra" =>
         0x40_007d "" "" "" "[rsp0;8]=ra\nc [rsp0-8;8]=rdi0" []),
     row!("mov [rsp-8], esi, inside a cell"; b"\x89\x74\x24\xf8"; "step"; "" "" "" "[rsp0;8]=ra\nc [rsp0-8;8]=rdi0" =>
@@ -40,7 +39,7 @@ static STORES: [Row; 17] = [
         0x40_007b "" "32 zx32(rdi0) 3" "" "[rdi0;1]" [More::Cell(0, "[rdi0;1]=5")]),
 ];
 
-static CHANGES: [Row; 4] = [
+pub static CHANGES: [Row; 4] = [
     row!("inc dword [rdi], a value"; b"\xff\x07"; "step"; "" "" "" "[rdi0;4]=5" =>
         0x40_007a "" "" "" "[rdi0;4]=6" []),
     row!("sub dword [rdi], 3, a value"; b"\x83\x2f\x03"; "step"; "" "" "" "[rdi0;4]=zx32(rsi0)" =>
@@ -52,7 +51,7 @@ static CHANGES: [Row; 4] = [
 ];
 
 // An instruction that tells a pair of regions apart: one, separate, neither.
-static PAIRS: [Row; 6] = [
+pub static PAIRS: [Row; 6] = [
     row!("mov [rdx], rcx"; b"\x48\x89\x0a"; "step\np [rdx0;8] [rsp0;8]\ng [rdx0;8] [rdi0;8]"; "" "" ""
         "[rsp0;8]=ra\nc [rdi0;8]=rsi0" =>
         0x40_007b "" "" "" "[rdx0|rdi0;8]=rcx0\nc [rsp0;8]=ra" [];
@@ -78,14 +77,3 @@ static PAIRS: [Row; 6] = [
     row!("a jump has its own cases"; b"\xeb\x05"; "step\ng [rdx0;8] [rdi0;8]"; "" "" "" "[rdi0;8]=5" =>
         0x40_007f "" "" "" "[rdi0;8]=5" [More::Cell(0, "[rdx0|rdi0;8]=5")]),
 ];
-
-#[test]
-fn a_store_gives_its_cell_a_value_and_takes_what_may_overlap(rt: HostRuntime) -> Result<(), Fail> {
-    expect_rows(rt.alloc(), &STORES)?;
-    expect_rows(rt.alloc(), &CHANGES)
-}
-
-#[test]
-fn a_pair_told_apart_has_three_cases(rt: HostRuntime) -> Result<(), Fail> {
-    expect_rows(rt.alloc(), &PAIRS)
-}
