@@ -266,48 +266,60 @@ fn with_segments(count: u64, first: (u64, u64), second: (u64, u64)) -> [u8; 3704
     file
 }
 
+// The address and length of a first and a second segment, why the file is refused, and what the row shows.
+static NEIGHBOURS: [((u64, u64), (u64, u64), Option<ElfRefusal>, &str); 10] = [
+    ((0x40_0000, 0x1000), (0x40_1000, 1), None, "touching"),
+    (
+        (0x40_0000, 0x1000),
+        (0x40_0fff, 1),
+        Some(ElfRefusal::SegmentsUnordered),
+        "overlapping",
+    ),
+    (
+        (0x40_0000, 0x1000),
+        (0x40_0000, 0x1000),
+        Some(ElfRefusal::SegmentsUnordered),
+        "the same",
+    ),
+    (
+        (0x40_0000, 0x1000),
+        (0x3f_ffff, 1),
+        Some(ElfRefusal::SegmentsUnordered),
+        "falling",
+    ),
+    (
+        (0x40_0000, 0x1000),
+        (0x40_0fff, 0),
+        None,
+        "an empty one inside",
+    ),
+    ((0x40_0000, 0), (0x3f_ffff, 1), None, "an empty one first"),
+    (
+        (0x40_0000, 0),
+        (0x40_0000, 0),
+        Some(ElfRefusal::NoLoad),
+        "two empty ones",
+    ),
+    ((0, 1), (MAX - 1, 1), None, "the last but one address"),
+    (
+        (0, 1),
+        (MAX, 1),
+        Some(ElfRefusal::SegmentWraps),
+        "the last address",
+    ),
+    (
+        (0, MAX),
+        (MAX, 1),
+        Some(ElfRefusal::SegmentWraps),
+        "all addresses",
+    ),
+];
+
 #[test]
 fn segments_ascend_and_do_not_overlap(rt: HostRuntime) {
-    use ElfRefusal::*;
-    for (first, second, expected, name) in [
-        ((0x40_0000, 0x1000), (0x40_1000, 1), None, "touching"),
-        (
-            (0x40_0000, 0x1000),
-            (0x40_0fff, 1),
-            Some(SegmentsUnordered),
-            "overlapping",
-        ),
-        (
-            (0x40_0000, 0x1000),
-            (0x40_0000, 0x1000),
-            Some(SegmentsUnordered),
-            "the same",
-        ),
-        (
-            (0x40_0000, 0x1000),
-            (0x3f_ffff, 1),
-            Some(SegmentsUnordered),
-            "falling",
-        ),
-        (
-            (0x40_0000, 0x1000),
-            (0x40_0fff, 0),
-            None,
-            "an empty one inside",
-        ),
-        ((0x40_0000, 0), (0x3f_ffff, 1), None, "an empty one first"),
-        (
-            (0x40_0000, 0),
-            (0x40_0000, 0),
-            Some(NoLoad),
-            "two empty ones",
-        ),
-        ((0, 1), (MAX - 1, 1), None, "the last but one address"),
-        ((0, 1), (MAX, 1), Some(SegmentWraps), "the last address"),
-        ((0, MAX), (MAX, 1), Some(SegmentWraps), "all addresses"),
-    ] {
-        let file = with_segments(2, first, second);
-        assert_eq!(rt; refusal(rt.alloc(), &file), expected, "{name}");
+    for (first, second, expected, name) in &NEIGHBOURS {
+        let file = with_segments(2, *first, *second);
+        assert_eq!(rt; refusal(rt.alloc(), &file), *expected, "{name}");
     }
 }
 

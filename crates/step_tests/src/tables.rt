@@ -2,56 +2,48 @@
 use elf_image::{Image, read_elf};
 use jump_tables::{table_values, targets};
 use std::alloc::Global;
-use std::process::Abort;
 use std::test::Fail;
 use sym_terms::{Sym, Term};
 
-// The headers of an executable with one segment at 0x400000 (ELF-64), whose file part and code follow at 0x400078.
-const HEAD: [u8; 120] = *b"\x7fELF\x02\x01\x01\0\0\0\0\0\0\0\0\0\
-\x02\0\x3e\0\x01\0\0\0\x78\0\x40\0\0\0\0\0\
-\x40\0\0\0\0\0\0\0\0\0\0\0\0\0\0\0\
-\0\0\0\0\x40\0\x38\0\x01\0\0\0\0\0\0\0\
-\x01\0\0\0\x05\0\0\0\0\0\0\0\0\0\0\0\
-\0\0\x40\0\0\0\0\0\0\0\x40\0\0\0\0\0\
-\0\0\0\0\0\0\0\0\0\0\0\0\0\0\0\0\
-\0\x10\0\0\0\0\0\0";
+// The headers of an executable with one segment at 0x400000 (ELF-64), by its flags, its bytes in the file and those in memory.
+// The code follows at 0x400078.
+macro_rules! head {
+    ($flags:literal $file:literal $memory:literal $more:literal) => {
+        [
+            0x7f, b'E', b'L', b'F', 2, 1, 1, 0, 0, 0, 0, 0, 0, 0, 0, 0, 2, 0, 0x3e, 0, 1, 0, 0, 0,
+            0x78, 0, 0x40, 0, 0, 0, 0, 0, 0x40, 0, 0, 0, 0, 0, 0, 0, 0, 0, 0, 0, 0, 0, 0, 0, 0, 0, 0,
+            0, 0x40, 0, 0x38, 0, 1, 0, 0, 0, 0, 0, 0, 0, 1, 0, 0, 0, $flags, 0, 0, 0, 0, 0, 0, 0, 0, 0,
+            0, 0, 0, 0, 0x40, 0, 0, 0, 0, 0, 0, 0, 0x40, 0, 0, 0, 0, 0, $file, 0, 0, 0, 0, 0, 0, 0,
+            $memory, $more, 0, 0, 0, 0, 0, 0, 0, 0x10, 0, 0, 0, 0, 0, 0,
+        ]
+    };
+}
+
+static READ_AND_RUN: [u8; 120] = head!(5 0xb0 0xb0 0);
+
+static READ_AND_WRITE: [u8; 120] = head!(6 0xb0 0xb0 0);
+
+static ALL: [u8; 120] = head!(7 0xb0 0xb0 0);
+
+// With 9,000 zeros after the bytes of the file.
+static LONG: [u8; 120] = head!(5 0xb0 0xd8 0x23);
+
+static SHORT: [u8; 120] = head!(5 0xa0 0xa0 0);
 
 // A switch by a table of addresses: cmp edi, 3; ja; mov eax, edi; jmp [rax*8+0x400090]; ret; ret; ret; the table.
-const ADDRESSES: [u8; 56] = *b"\x83\xff\x03\x77\x0b\x89\xf8\xff\x24\xc5\x90\0\x40\0\xc3\xc3\
+static ADDRESSES: [u8; 56] = *b"\x83\xff\x03\x77\x0b\x89\xf8\xff\x24\xc5\x90\0\x40\0\xc3\xc3\
 \xc3\xcc\xcc\xcc\xcc\xcc\xcc\xcc\
 \x86\0\x40\0\0\0\0\0\x87\0\x40\0\0\0\0\0\x86\0\x40\0\0\0\0\0\x88\0\x40\0\0\0\0\0";
 
 // A switch by a table of offsets: cmp edi, 2; ja; mov edi, edi; lea rdx, [rip+0xe]; movsxd rax, [rdx+rdi*4]; add rax,
 // rdx; jmp rax; ret; ret; ret; the table at 0x400094: -4, -3, -3.
-const OFFSETS: [u8; 40] = *b"\x83\xff\x02\x77\x15\x89\xff\x48\x8d\x15\x0e\0\0\0\x48\x63\
+static OFFSETS: [u8; 40] = *b"\x83\xff\x02\x77\x15\x89\xff\x48\x8d\x15\x0e\0\0\0\x48\x63\
 \x04\xba\x48\x01\xd0\x3e\xff\xe0\xc3\xc3\xc3\xcc\
 \xfc\xff\xff\xff\xfd\xff\xff\xff\xfd\xff\xff\xff";
 
-const READ_AND_RUN: u8 = 5;
-
-const READ_AND_WRITE: u8 = 6;
-
-const ALL: u8 = 7;
-
-// The executable with this code, these flags, and so many zeros after its code.
-fn executable(alloc: Global, code: &[u8], flags: u8, zeros: u64) -> Result<Image, Fail> {
-    let mut file = Vec::from_slice(alloc, &HEAD)?;
+fn executable(alloc: Global, head: &[u8], code: &[u8]) -> Result<Image, Fail> {
+    let mut file = Vec::from_slice(alloc, head)?;
     file.extend_from_slice(code)?;
-    let length = file.len() as u64;
-    for (place, byte) in length.to_le_bytes().iter().enumerate() {
-        if let Some(slot) = file.get_mut(96 + place) {
-            *slot = *byte;
-        }
-    }
-    let size = length.saturating_add(zeros);
-    for (place, byte) in size.to_le_bytes().iter().enumerate() {
-        if let Some(slot) = file.get_mut(104 + place) {
-            *slot = *byte;
-        }
-    }
-    if let Some(slot) = file.get_mut(68) {
-        *slot = flags;
-    }
     let image = read_elf(alloc, file.as_slice())?;
     Ok(image)
 }
@@ -104,15 +96,31 @@ static BY_OFFSET: [Row; 4] = [
     row!(0x40_0094 4 0 3 4 true None),
 ];
 
-fn expect_rows(rt: &impl Abort, alloc: Global, image: &Image, rows: &[Row]) -> Result<(), Fail> {
+static CHANGED: [Row; 1] = [row!(0x40_0090 8 0 3 8 false None)];
+
+// Past the bytes of the file all numbers are zero.
+static OF_MANY: [Row; 2] = [
+    row!(0x40_0090 8 0 1023 8 false Some(&[0, 0x40_0086, 0x40_0087, 0x40_0088])),
+    row!(0x40_0090 8 0 1024 8 false None),
+];
+
+// Whether the table has the numbers of the row. A row whose numbers no call may be given is wrong.
+fn has_numbers(alloc: Global, image: &Image, row: &Row) -> Result<bool, Fail> {
+    if row.hi < row.lo || !matches!(row.bytes, 1 | 2 | 4 | 8) {
+        return Ok(false);
+    }
+    let values = table_values(
+        alloc, image, row.base, row.scale, row.lo, row.hi, row.bytes, row.signed,
+    )?;
+    let found = values.as_ref().map(|numbers| numbers.as_slice());
+    Ok(found == row.found)
+}
+
+fn expect_rows(alloc: Global, head: &[u8], code: &[u8], rows: &[Row]) -> Result<(), Fail> {
+    let image = executable(alloc, head, code)?;
     for row in rows {
-        if row.lo <= row.hi && matches!(row.bytes, 1 | 2 | 4 | 8) {
-            let (base, hi) = (row.base, row.hi);
-            let values = table_values(
-                alloc, image, base, row.scale, row.lo, hi, row.bytes, row.signed,
-            )?;
-            let found = values.as_ref().map(|numbers| numbers.as_slice());
-            assert_eq!(rt; found, row.found, "at {base:x}, to {hi}");
+        if !has_numbers(alloc, &image, row)? {
+            return Err("a table has other numbers".into());
         }
     }
     Ok(())
@@ -120,28 +128,61 @@ fn expect_rows(rt: &impl Abort, alloc: Global, image: &Image, rows: &[Row]) -> R
 
 #[test]
 fn entries_are_listed_once_and_ascend(rt: HostRuntime) -> Result<(), Fail> {
-    let alloc = rt.alloc();
-    for flags in [READ_AND_RUN, ALL] {
-        let image = executable(alloc, &ADDRESSES, flags, 0)?;
-        expect_rows(&rt, alloc, &image, &BY_ADDRESS)?;
-    }
-    let image = executable(alloc, &OFFSETS, READ_AND_RUN, 0)?;
-    expect_rows(&rt, alloc, &image, &BY_OFFSET)
+    expect_rows(rt.alloc(), &READ_AND_RUN, &ADDRESSES, &BY_ADDRESS)
+}
+
+#[test]
+fn what_may_be_written_and_run_is_fixed(rt: HostRuntime) -> Result<(), Fail> {
+    expect_rows(rt.alloc(), &ALL, &ADDRESSES, &BY_ADDRESS)
+}
+
+#[test]
+fn offsets_are_extended_by_their_sign_where_asked(rt: HostRuntime) -> Result<(), Fail> {
+    expect_rows(rt.alloc(), &SHORT, &OFFSETS, &BY_OFFSET)
 }
 
 #[test]
 fn a_table_that_the_program_may_change_is_none(rt: HostRuntime) -> Result<(), Fail> {
-    let image = executable(rt.alloc(), &ADDRESSES, READ_AND_WRITE, 0)?;
-    assert!(rt; table_values(rt.alloc(), &image, 0x40_0090, 8, 0, 3, 8, false)?.is_none());
-    Ok(())
+    expect_rows(rt.alloc(), &READ_AND_WRITE, &ADDRESSES, &CHANGED)
 }
 
 #[test]
 fn a_table_has_at_most_1024_entries(rt: HostRuntime) -> Result<(), Fail> {
-    let image = executable(rt.alloc(), &ADDRESSES, READ_AND_RUN, 9000)?;
-    for (hi, count) in [(1023, Some(4)), (1024, None)] {
-        let values = table_values(rt.alloc(), &image, 0x40_0090, 8, 0, hi, 8, false)?;
-        assert_eq!(rt; values.map(|numbers| numbers.len()), count, "to {hi}");
+    expect_rows(rt.alloc(), &LONG, &ADDRESSES, &OF_MANY)
+}
+
+// The numbers of a key, and the targets of a jump to 0x400094 plus the key: none where one isn't code.
+struct Jump {
+    numbers: &'static [u64],
+    targets: Option<&'static [u64]>,
+}
+
+static JUMPS: [Jump; 4] = [
+    Jump {
+        numbers: &[0xffff_ffff_ffff_fffc, 0xffff_ffff_ffff_fffd],
+        targets: Some(&[0x40_0090, 0x40_0091]),
+    },
+    Jump {
+        numbers: &[4, 0, 4],
+        targets: Some(&[0x40_0094, 0x40_0098]),
+    },
+    Jump {
+        numbers: &[0, 12],
+        targets: None,
+    },
+    Jump {
+        numbers: &[0xffff_ffff_ffbf_ff6b],
+        targets: None,
+    },
+];
+
+fn expect_jumps(alloc: Global, jump: &Term, key: &Term) -> Result<(), Fail> {
+    let image = executable(alloc, &SHORT, &OFFSETS)?;
+    for row in &JUMPS {
+        let found = targets(alloc, &image, jump, key, row.numbers)?;
+        if found.as_ref().map(|list| list.as_slice()) != row.targets {
+            return Err("a jump has other targets".into());
+        }
     }
     Ok(())
 }
@@ -149,27 +190,19 @@ fn a_table_has_at_most_1024_entries(rt: HostRuntime) -> Result<(), Fail> {
 #[test]
 fn a_jump_leads_a_constant_after_each_number(rt: HostRuntime) -> Result<(), Fail> {
     let alloc = rt.alloc();
-    let image = executable(alloc, &OFFSETS, READ_AND_RUN, 0)?;
     let key = Term::symbol(alloc, Sym::Named(0x40_0086))?;
-    let other = Term::symbol(alloc, Sym::Ra)?;
     let jump = key
         .add(alloc, &Term::constant(alloc, 0x40_0094))?
         .ok_or("no term")?;
-    // The numbers of the key, and the addresses: none where one isn't code.
-    let rows: [(&[u64], Option<&[u64]>); 4] = [
-        (
-            &[0xffff_ffff_ffff_fffc, 0xffff_ffff_ffff_fffd],
-            Some(&[0x40_0090, 0x40_0091]),
-        ),
-        (&[4, 0, 4], Some(&[0x40_0094, 0x40_0098])),
-        (&[0, 12], None),
-        (&[0xffff_ffff_ffbf_ff6b], None),
-    ];
-    for (numbers, addresses) in rows {
-        let found = targets(alloc, &image, &jump, &key, numbers)?;
-        let found = found.as_ref().map(|list| list.as_slice());
-        assert_eq!(rt; found, addresses, "by {numbers:?}");
-    }
-    assert!(rt; targets(alloc, &image, &jump, &other, &[0])?.is_none());
+    expect_jumps(alloc, &jump, &key)
+}
+
+#[test]
+fn a_jump_by_another_key_has_no_targets(rt: HostRuntime) -> Result<(), Fail> {
+    let alloc = rt.alloc();
+    let key = Term::symbol(alloc, Sym::Named(0x40_0086))?;
+    let other = Term::symbol(alloc, Sym::Ra)?;
+    let image = executable(alloc, &SHORT, &OFFSETS)?;
+    assert!(rt; targets(alloc, &image, &key, &other, &[0])?.is_none());
     Ok(())
 }
