@@ -4,3 +4,5 @@ pub mod StableLemmas
 pub mod FoundLemmas
 pub mod LeftLemmas
 pub mod CommuteLemmas
+pub mod BelowLemmas
+pub mod SameLemmas

@@ -2,6 +2,7 @@
 //! weakened by another. It runs no instruction.
 #![tactic(auto)]
 
+mod equal;
 mod known;
 mod list;
 mod node;

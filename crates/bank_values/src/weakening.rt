@@ -232,6 +232,8 @@ impl BankPred {
         ensures value { (terms : List PlainSum) → AreApart terms → IsBelow (length terms) self.old → IsBelow (length terms) other.now
             → IsPred (predicate_at terms self.old) → IsPred (predicate_at terms other.now)
             → predicate_at terms self.new ≡ weaken (predicate_at terms self.old) (predicate_at terms other.now) }
+        ensures within { (terms : List PlainSum) → IsBelow (length terms) self.old
+            → IsPred (predicate_at terms self.old) → IsPred (predicate_at terms other.now) → IsBelow (length terms) self.new }
     {
         weaken_registers(&mut self.regs, other.regs.as_slice());
         weaken_fact(&mut self.flags, other.flags);

@@ -8,7 +8,7 @@ use std::alloc::Global;
 use std::collections::BTreeMap;
 
 impl Graph {
-    /// The graph of an entry vertex alone, at an address and with tag 0.
+    /// The graph of an entry vertex alone, at an address and with tag 0; `NoMemory` where memory runs out.
     pub fn new(alloc: Global, entry: u64) -> Result<Graph, NoMemory>
         ensures graph { IfOk result (λ g. IsGraph g) }
         ensures entry { IfOk result (λ g. slice_get g.keys.items 0 ≡ Some (record { address = entry; tag = 0 })) }

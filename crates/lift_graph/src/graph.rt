@@ -65,7 +65,7 @@ impl Graph {
         self.keys[vertex].address
     }
 
-    /// The vertices at an address, each once, by ascending tag.
+    /// The vertices at an address, each once, by ascending tag; `NoMemory` where memory runs out.
     pub fn site(&self, alloc: Global, address: u64) -> Result<Vec<usize>, NoMemory>
         ensures found { IfOk result (λ vs. vs.items ≡ vertices_at self.now.index address self.now.tags) }
         ensures site { IfOk result (λ vs. IsListed self.now → IsSite self.now.keys.items address vs.items) }

@@ -38,6 +38,7 @@ impl From<NoMemory> for Stop {
 
 /// Makes the edges of a vertex anew, of the addresses of its cases: a new edge, and a new vertex where there is none, for each
 /// case that has none yet. `Lost` where a case that has an edge isn't among them, in the same order: then nothing changed.
+/// `NoMemory` where memory runs out: then nothing is known of the graph.
 pub fn link(
     alloc: Global,
     graph: &mut Graph,

@@ -12,7 +12,7 @@ use no_memory::NoMemory;
 use std::alloc::Global;
 
 /// Puts the edges to each vertex in written order, by the address and the tag of the source and then by the case, and marks
-/// the vertices that are kept.
+/// the vertices that are kept. `NoMemory` where memory runs out.
 pub fn settle_edges(alloc: Global, graph: &mut Graph) -> Result<(), NoMemory>
     requires { IsGraph graph.old }
     ensures graph { OnOk result (IsGraph graph.new) }

@@ -28,8 +28,8 @@ pub(crate) fn drop_name(p: &mut Pred, i: &Instr)
     forget(p, Sym::Named(i.addr));
 }
 
-// What is known where the callee begins: a call has stored the next address.
-fn begin(alloc: Global, v: &SiteView, i: &Instr, p: &mut Pred) -> Result<(), NoMemory>
+/// What is known where the callee begins: a call has stored the next address. `NoMemory` where memory runs out.
+pub fn begin(alloc: Global, v: &SiteView, i: &Instr, p: &mut Pred) -> Result<(), NoMemory>
     ensures { OnOk result (p.new ≡ begin (view_of v.now) i.now p.old) }
 {
     drop_name(p, i);

@@ -10,6 +10,7 @@ mod moves;
 mod site;
 mod steps;
 
+pub use calls::begin;
 pub use cases::{Led, led_of};
 pub use site::{Facts, facts_of};
 pub use sym_terms::NoMemory;

@@ -1,5 +1,5 @@
 // What is asked of a site beside its cases: where it stores and calls, and whether it returns as it should.
-ghost use Rattle.std.specs.Prelude.{◌≡◌, ◌↔◌, IfOk, IsTrue, Some};
+ghost use Rattle.std.specs.Prelude.{◌≡◌, ◌↔◌, IfOk, IsTrue, OnOk, Some};
 ghost use Rattle.std.specs.List.{list_all};
 ghost use Rattle.std.specs.Option.{option_copied, option_map};
 ghost use Rattle.sym_terms.specs.declared.kinds.Sym.TheVariants.{Ra};
@@ -7,6 +7,7 @@ ghost use Rattle.sym_terms.specs.Plain.{IsSymbol, single_atom, symbol};
 ghost use Rattle.mem_forest.specs.Search.{value_at};
 ghost use Rattle.x86_instr.specs.Groups.{group_of};
 ghost use Rattle.predicate_meaning.specs.Returns.{Returns, saved_registers};
+ghost use Rattle.step_rules.specs.Drop.{dropped};
 ghost use Rattle.step_rules.specs.Site.{region_of, place_region, push_region, store_region_in, store_region};
 ghost use Rattle.step_rules.specs.Calls.{call_target};
 ghost use Rattle.pred_moves.specs.Views.{view_of};
@@ -129,6 +130,7 @@ pub fn facts_of(p: &mut Pred, alloc: Global, v: &SiteView, i: &Instr) -> Result<
     ensures store { IfOk result (λ f. f.store ≡ store_region i.now p.old) }
     ensures target { IfOk result (λ f. f.target ≡ call_target (view_of v.now) i.now p.old) }
     ensures returns { IfOk result (λ f. IsTrue f.returns ↔ Returns p.old) }
+    ensures dropped { OnOk result (p.new ≡ dropped i.now p.old) }
 {
     let returns = is_returned(alloc, p)?;
     drop_name(p, i);
