@@ -1,0 +1,28 @@
+-- What holds of what was found holds of a copy.
+use Rattle.std.proofs.Common.{◌≡◌, ℕ, length, sym, ap, ◌∙◌}
+use Rattle.std.specs.List.{All}
+use Rattle.lift_graph.specs.Graph.{IsGraph}
+use Rattle.lift_rounds.specs.Meaning.{Meaning}
+use Rattle.lift_rounds.specs.Known.{IsHeld, reading}
+use Rattle.lift_rounds.proofs.ReadingLemmas.{length_reading}
+use Rattle.lift_openings.specs.Copies.{IsCopy}
+use Rattle.lift_openings.specs.Lifted.{IsFound, IsBegun}
+use Rattle.lift_openings.specs.declared.lift.Lift.{Lift}
+use Rattle.lift_openings.proofs.CopyLemmas.{led_copy}
+
+pub found_copied : {P R : Type 0} (m : Meaning R) (has : P → Type 0) (read : P → R) (old new : Lift P)
+    → IsGraph new.graph → IsCopy old.graph new.graph → reading read new.made.items ≡ reading read old.made.items
+    → All (λ x. IsHeld has x) new.made.items → IsFound m has read old → IsFound m has read new
+found_copied m has read old new graph copy same held h =
+    let rows : length new.made.items ≡ length old.made.items = sym (length_reading read new.made.items) ∙ ap length same ∙ length_reading read old.made.items in
+    record {
+      graph = graph;
+      rows = rows ∙ h.rows ∙ sym (ap length copy.keys);
+      held = held;
+      led = led_copy m old.graph new.graph (reading read old.made.items) (reading read new.made.items) copy same h.led;
+    }
+
+pub begun_copied : {P R : Type 0} (read : P → R) (old new : Lift P)
+    → IsCopy old.graph new.graph → reading read new.made.items ≡ reading read old.made.items
+    → (address : ℕ) (start : R) → IsBegun read old address start → IsBegun read new address start
+begun_copied read old new copy same address start h = record { key = rw copy.keys h.key; pred = rw same h.pred }

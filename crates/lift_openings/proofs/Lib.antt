@@ -1,0 +1,4 @@
+pub mod CopyLemmas
+pub mod FoundLemmas
+pub mod GraphLemmas
+pub mod StillLemmas
