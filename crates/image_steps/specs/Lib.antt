@@ -1,0 +1,6 @@
+pub mod Shaped
+pub mod Falls
+pub mod Laws
+pub mod Meant
+pub mod Walks
+pub mod WalkLaws
