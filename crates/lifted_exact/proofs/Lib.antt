@@ -1,0 +1,17 @@
+pub mod RankLemmas
+pub mod KeyLemmas
+pub mod OrderLemmas
+pub mod FlatLemmas
+pub mod EdgeLemmas
+pub mod MergeLemmas
+pub mod PlaceLemmas
+pub mod CaseLemmas
+pub mod HeadLemmas
+pub mod ExactLemmas
+pub mod TagLemmas
+pub mod LineLemmas
+pub mod CountLemmas
+pub mod JumpLemmas
+pub mod KindLemmas
+pub mod FactLemmas
+pub mod FormLemmas
