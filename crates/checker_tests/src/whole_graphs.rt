@@ -51,7 +51,11 @@ fn put_file(
 }
 
 // The executable `a` with this code, and the graph `g` with this text.
-fn files(alloc: Global, code: &[u8], graph: &[u8]) -> Result<Vec<(String, Vec<u8>)>, NoMemory> {
+pub(crate) fn files(
+    alloc: Global,
+    code: &[u8],
+    graph: &[u8],
+) -> Result<Vec<(String, Vec<u8>)>, NoMemory> {
     let mut files = Vec::new(alloc);
     put_file(alloc, &mut files, "a", executable(alloc, code)?)?;
     put_file(alloc, &mut files, "g", Vec::from_slice(alloc, graph)?)?;

@@ -17,11 +17,11 @@ use Rattle.edge_checker.specs.Laws.{IsValid, ValidLaw}
 use Rattle.report.specs.Text.{IsReport}
 use Rattle.foxdec_commands.specs.declared.file_refusal.FileRefusal.{FileRefusal}
 use Rattle.foxdec_commands.specs.FileRefusal.{executable_refusal}
-use Rattle.foxdec_commands.specs.Words.{Asked, check, show, report}
+use Rattle.foxdec_commands.specs.Words.{Asked, check, show, report, lift}
 use Rattle.foxdec_commands.specs.Ending.{Ending, printed, file_refused, status_of, output_of, text_of}
 use Rattle.foxdec_commands.specs.Listing.{IsListing}
 use Rattle.foxdec_commands.specs.VerdictLine.{verdict_ending, valid_line, invalid_line}
-use Rattle.foxdec_commands.specs.Outcome.{IsExecutable, IsGraphText, IsRefusedFile, IsRefusedGraph, Tells, Allows, Takes, GivesVerdict, GivesReport, BothComeTo, ComesTo}
+use Rattle.foxdec_commands.specs.Outcome.{IsExecutable, IsGraphText, IsRefusedFile, IsRefusedGraph, Allows, Takes, GivesVerdict, GivesReport, BothComeTo, ComesTo, Decides}
 use Rattle.foxdec_commands.specs.Outside.{Files, Stream, Adds, Says}
 use Rattle.foxdec_commands.specs.Guarantee.{Gives, Ends, IsExcused, GivesDue, file_of, SaysRefused, AddsListing, HoldsBetween, AllowsBoth, AddsReport, IsFirstBroken}
 use Rattle.foxdec_commands.proofs.GuaranteeLemmas.{answers, decides}
@@ -60,12 +60,15 @@ module _ (known : List ℕ → Option (List ℕ)) (e : Ending) (four : status_of
       refused_of_both file graph GivesReport (λ image g is. omega (arith, four, ap status_of is.says)) came
   refused_file (show file address count) (bytes, all, inl refused) = (bytes, all, refused)
   refused_file (show file address count) (bytes, all, inr taken) = absurd (omega (arith, four, ap status_of taken.2.says))
+  refused_file (lift file roots externs) (bytes, all, inl refused) = (bytes, all, refused)
+  refused_file (lift file roots externs) (bytes, all, inr taken) = absurd (omega (arith, four, ap status_of taken.2.says))
 
 -- and the refusal of a known file decides the ending
-pub refusal_told : (known : List ℕ → Option (List ℕ)) (asked : Asked) (bytes : List ℕ) (refusal : FileRefusal) → known (file_of asked) ≡ Some bytes → executable_refusal bytes ≡ Some refusal → ComesTo Tells known asked (file_refused (file_of asked) refusal)
+pub refusal_told : (known : List ℕ → Option (List ℕ)) (asked : Asked) (bytes : List ℕ) (refusal : FileRefusal) → known (file_of asked) ≡ Some bytes → executable_refusal bytes ≡ Some refusal → Decides known asked (file_refused (file_of asked) refusal)
 refusal_told known (check file graph) bytes refusal is applies = (bytes, is, inl (record { refusal = refusal; applies = applies; says = refl }))
 refusal_told known (report file graph) bytes refusal is applies = (bytes, is, inl (record { refusal = refusal; applies = applies; says = refl }))
 refusal_told known (show file address count) bytes refusal is applies = (bytes, is, inl (record { refusal = refusal; applies = applies; says = refl }))
+refusal_told known (lift file roots externs) bytes refusal is applies = (bytes, is, record { refusal = refusal; applies = applies; says = refl })
 
 module _ (files : Files) (out err : Stream) (asked : Asked) (status : ℕ) (ends : Ends files out err (Some asked) status) where
   -- 4 only where the executable is refused, as the text says

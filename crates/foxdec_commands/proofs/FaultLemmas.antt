@@ -7,9 +7,9 @@ use Rattle.elf_image.specs.Loaded.{image_of}
 use Rattle.foxdec_commands.specs.FileRefusal.{executable_refusal}
 use Rattle.foxdec_commands.specs.declared.graph_fault.GraphFault.{GraphFault}
 use Rattle.foxdec_commands.specs.GraphFault.{graph_refusal}
-use Rattle.foxdec_commands.specs.Words.{Asked, check, show, report, TakesBoth}
+use Rattle.foxdec_commands.specs.Words.{Asked, check, show, report, lift, TakesBoth}
 use Rattle.foxdec_commands.specs.Ending.{Ending, graph_refused, status_of, text_of}
-use Rattle.foxdec_commands.specs.Outcome.{HasImage, IsGraphText, IsRefusedGraph, Tells, Allows, Takes, GivesVerdict, GivesReport, BothComeTo, ComesTo}
+use Rattle.foxdec_commands.specs.Outcome.{HasImage, IsGraphText, IsRefusedGraph, Tells, Allows, Takes, GivesVerdict, GivesReport, BothComeTo, ComesTo, Decides}
 use Rattle.foxdec_commands.specs.Outside.{Files, Stream, Says}
 use Rattle.foxdec_commands.specs.Guarantee.{Gives, Ends, IsExcused, GivesDue, SaysFaulted}
 use Rattle.foxdec_commands.proofs.GuaranteeLemmas.{answers, decides}
@@ -41,6 +41,8 @@ module _ (files : Files) (err : Stream) (e : Ending) (five : status_of e ≡ 5) 
       both_faulted (report file graph) file graph (inr refl) GivesReport (λ image g is. omega (arith, five, ap status_of is.says)) came
   says_faulted (show file address count) (bytes, all, inl refused) = absurd (omega (arith, five, ap status_of refused.says))
   says_faulted (show file address count) (bytes, all, inr taken) = absurd (omega (arith, five, ap status_of taken.2.says))
+  says_faulted (lift file roots externs) (bytes, all, inl refused) = absurd (omega (arith, five, ap status_of refused.says))
+  says_faulted (lift file roots externs) (bytes, all, inr taken) = absurd (omega (arith, five, ap status_of taken.2.says))
 
 module _ (files : Files) (out err : Stream) (asked : Asked) (status : ℕ) (ends : Ends files out err (Some asked) status) where
   faulted_of : status ≡ 5 → GivesDue files out err asked status → SaysFaulted files err asked
@@ -51,15 +53,15 @@ module _ (files : Files) (out err : Stream) (asked : Asked) (status : ℕ) (ends
   only_faulted five = faulted_of five (answers files out err status asked (inr (inr (inr five))) ends)
 
 -- the refusal of a known text decides the ending
-fault_told : (known : List ℕ → Option (List ℕ)) (asked : Asked) (file graph : List ℕ) → TakesBoth asked file graph → (bytes text : List ℕ) (fault : GraphFault) → known file ≡ Some bytes → known graph ≡ Some text → executable_refusal bytes ≡ None → graph_refusal text ≡ Some fault → ComesTo Tells known asked (graph_refused graph fault)
+fault_told : (known : List ℕ → Option (List ℕ)) (asked : Asked) (file graph : List ℕ) → TakesBoth asked file graph → (bytes text : List ℕ) (fault : GraphFault) → known file ≡ Some bytes → known graph ≡ Some text → executable_refusal bytes ≡ None → graph_refusal text ≡ Some fault → Decides known asked (graph_refused graph fault)
 fault_told known asked file graph takes bytes text fault file_is graph_is accepted applies = by takes
   where
     both : (Give : Image → Graph → Ending → Type 0) → BothComeTo Tells known file graph Give (graph_refused graph fault)
     both Give = (bytes, file_is, inr (image_of bytes, record { accepted = accepted; loaded = refl }, (text, graph_is, inl (record { fault = fault; applies = applies; says = refl }))))
 
-    by : TakesBoth asked file graph → ComesTo Tells known asked (graph_refused graph fault)
-    by (inl checks) = subst (λ (a : Asked). ComesTo Tells known a (graph_refused graph fault)) (sym checks) (both GivesVerdict)
-    by (inr reports) = subst (λ (a : Asked). ComesTo Tells known a (graph_refused graph fault)) (sym reports) (both GivesReport)
+    by : TakesBoth asked file graph → Decides known asked (graph_refused graph fault)
+    by (inl checks) = subst (λ (a : Asked). Decides known a (graph_refused graph fault)) (sym checks) (both GivesVerdict)
+    by (inr reports) = subst (λ (a : Asked). Decides known a (graph_refused graph fault)) (sym reports) (both GivesReport)
 
 module _ (files : Files) (out err : Stream) (asked : Asked) (status : ℕ) (ends : Ends files out err (Some asked) status) where
   given_faulted : (graph : List ℕ) (fault : GraphFault) → Gives out err status (graph_refused graph fault) ⊎ IsExcused files out asked status

@@ -3,7 +3,7 @@ use Rattle.std.proofs.Common.{◌≡◌, ◌⊎◌, ◌↔◌, inl, inr, ℕ, Li
 use Rattle.std.specs.declared.option.Option.{Option}
 use Rattle.foxdec_commands.specs.Words.{Asked}
 use Rattle.foxdec_commands.specs.Ending.{Ending, printed, not_a_command, read_failed, file_refused, graph_refused, write_failed, out_of_memory, status_of}
-use Rattle.foxdec_commands.specs.Outcome.{Tells, ComesTo, IsDue}
+use Rattle.foxdec_commands.specs.Outcome.{Decides, IsDue}
 use Rattle.foxdec_commands.specs.Outside.{Files, Stream, HasTrouble, Adds}
 use Rattle.foxdec_commands.specs.Guarantee.{IsShown, IsUnreadable, Gives, Ends, IsExcused, IsAnswered, IsSilent, GivesDue, SaysUnreadable, IsCutOff}
 use Rattle.foxdec_commands.proofs.TextLemmas.{Grows-refl}
@@ -85,13 +85,13 @@ module _ (files : Files) (out err : Stream) (status : ℕ) where
   cut asked is ends = cut_in asked is (ways asked ends)
 
   -- what the known files decide is given, but for the excuses
-  decides_in : (asked : Asked) (due : Ending) → ComesTo Tells files.known asked due → Ways asked → Gives out err status due ⊎ IsExcused files out asked status
+  decides_in : (asked : Asked) (due : Ending) → Decides files.known asked due → Ways asked → Gives out err status due ⊎ IsExcused files out asked status
   decides_in asked due known (inl way) = inl (subst (Gives out err status) (way.1.due.decided due known) way.1.gives)
   decides_in asked due known (inr (inl way)) = inr (inl (way.0, (way.1.name, way.1.unreadable)))
   decides_in asked due known (inr (inr (inl way))) = inr (inr (inl (way.0, way.1.trouble)))
   decides_in asked due known (inr (inr (inr way))) = inr (inr (inr way))
 
-  pub decides : (asked : Asked) (due : Ending) → ComesTo Tells files.known asked due → Ends files out err (Some asked) status → Gives out err status due ⊎ IsExcused files out asked status
+  pub decides : (asked : Asked) (due : Ending) → Decides files.known asked due → Ends files out err (Some asked) status → Gives out err status due ⊎ IsExcused files out asked status
   decides asked due known ends = decides_in asked due known (ways asked ends)
 
   -- where nothing failed, only memory is in the way

@@ -11,3 +11,4 @@ pub mod ImageLemmas
 pub mod CheckLemmas
 pub mod FaultLemmas
 pub mod QuietLemmas
+pub mod LiftLemmas

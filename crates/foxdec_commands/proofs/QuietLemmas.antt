@@ -6,12 +6,12 @@ use Rattle.wire_io.specs.Counts.{Rose}
 use Rattle.wire_io.specs.Sink.{IsFull, KeepsRoom}
 use Rattle.foxdec_commands.specs.Words.{Asked}
 use Rattle.foxdec_commands.specs.Ending.{Ending, printed, output_of}
-use Rattle.foxdec_commands.specs.Outcome.{Tells, ComesTo}
+use Rattle.foxdec_commands.specs.Outcome.{Decides}
 use Rattle.foxdec_commands.specs.Outside.{Files, Stream, ReadFailed, Adds}
 use Rattle.foxdec_commands.specs.Guarantee.{Gives, Ends, IsCutOff}
 use Rattle.foxdec_commands.proofs.GuaranteeLemmas.{Ways, ways}
 
-module _ (files : Files) (out err : Stream) (status : ℕ) (asked : Asked) (e : Ending) (known : ComesTo Tells files.known asked e)
+module _ (files : Files) (out err : Stream) (status : ℕ) (asked : Asked) (e : Ending) (known : Decides files.known asked e)
     (no_read : (name : List ℕ) → ReadFailed files name → ⊥) (no_fault : Rose out.faults out.later_faults → ⊥) (fresh : out.stalls ≡ 0)
     (room later : Option ℕ) (keeps : KeepsRoom room later out.stalls out.later_stalls out.later_written)
     (most : ℕ) (bytes : List ℕ) (room_is : room ≡ Some most) (written_is : out.written ≡ Some bytes) (fits : length bytes + length (output_of e) ≤ most) where

@@ -1,11 +1,11 @@
 -- Numbers as words.
-use Rattle.std.proofs.Common.{◌≡◌, inl, inr, ℕ, ◌^◌, ◌<◌, ◌≤◌, Bool, true, false, cond, ◌&&◌, List, [], ◌∷◌, length, drop, Some, None, refl, sym, ◌∙◌, ap, subst}
+use Rattle.std.proofs.Common.{◌≡◌, inl, inr, ℕ, ◌^◌, ◌<◌, ◌≤◌, Bool, true, false, cond, ◌&&◌, List, [], ◌∷◌, length, map, drop, Some, None, refl, sym, ◌∙◌, ap, subst, arith}
 use Rattle.std.specs.Prelude.{nat_lt, ◌↔◌}
 use Rattle.std.specs.List.{list_all}
 use Rattle.std.specs.Char.{digit_value, is_digit}
 use Rattle.std.specs.Str.Parse.{AllDigits, IsNumeral, digits_value, without_leading_plus}
 use Rattle.std.proofs.lemmas.Bool.{lt-ltb, le-ltb, ltb-true, eqb-true, and_parts, cases_Bool}
-use Rattle.foxdec_commands.specs.Words.{begins_with, is_numeral, number_of}
+use Rattle.foxdec_commands.specs.Words.{begins_with, is_numeral, number_of, addresses_of}
 
 -- two tests that are true
 both : (a b : Bool) → a ≡ true → b ≡ true → (a && b) ≡ true
@@ -72,3 +72,9 @@ plus_none base (c ∷ rest) most e =
     let others = list_all (λ d. is_digit d base) rest in
     sym (ap (λ (b : Bool). cond ((nat_lt 0 (length (c ∷ rest)) && (b && others)) && nat_lt value (2 ^ 64)) (Some value) None) digit
     ∙ ap (λ (b : Bool). cond b (Some value) None) (third (nat_lt 0 (length (c ∷ rest))) others (nat_lt value (2 ^ 64))))
+
+-- fewer than two words have no address
+pub none_behind : {A : Type 0} (text : A → List ℕ) (option : List ℕ) (words : List A) → length words < 2 → addresses_of option (map text words) ≡ []
+none_behind text option [] few = refl
+none_behind text option (word ∷ []) few = refl
+none_behind text option (word ∷ next ∷ words) few = absurd (omega (arith, few))

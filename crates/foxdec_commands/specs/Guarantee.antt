@@ -1,8 +1,9 @@
 -- What the program guarantees of a run: the cause of each way to end, and what it leaves.
-use Rattle.std.specs.Prelude.{◌≡◌, ◌⊎◌, ℕ, ◌<◌, Bool, List, length, take, Some, None}
+use Rattle.std.specs.Prelude.{◌≡◌, ◌⊎◌, ℕ, ◌<◌, Bool, List, ◌∷◌, length, take, Some, None}
 use Rattle.std.specs.declared.option.Option.{Option}
 use Rattle.elf_image.specs.declared.image.Image.{Image}
 use Rattle.graph_data.specs.declared.graph.Graph.{Graph}
+use Rattle.graph_runs.specs.World.{HasSafeRuns}
 use Rattle.graph_verdict.specs.declared.verdict.Broken.{Broken}
 use Rattle.graph_verdict.specs.declared.verdict.Verdict.TheVariants.{Invalid}
 use Rattle.edge_checker.specs.Breaks.{IsVerdict}
@@ -11,10 +12,10 @@ use Rattle.foxdec_commands.specs.declared.file_refusal.FileRefusal.{FileRefusal}
 use Rattle.foxdec_commands.specs.FileRefusal.{executable_refusal}
 use Rattle.foxdec_commands.specs.declared.graph_fault.GraphFault.{GraphFault}
 use Rattle.foxdec_commands.specs.GraphFault.{graph_refusal}
-use Rattle.foxdec_commands.specs.Words.{Asked, check, show, report, TakesBoth}
+use Rattle.foxdec_commands.specs.Words.{Asked, check, show, report, lift, TakesBoth}
 use Rattle.foxdec_commands.specs.Ending.{Ending, printed, not_a_command, read_failed, file_refused, graph_refused, write_failed, out_of_memory, status_of, output_of, text_of}
 use Rattle.foxdec_commands.specs.Listing.{IsListing}
-use Rattle.foxdec_commands.specs.Outcome.{Allows, IsExecutable, HasImage, IsGraphText, IsDue, Reads}
+use Rattle.foxdec_commands.specs.Outcome.{Allows, IsExecutable, HasImage, IsGraphText, IsGraphOf, IsDue, Reads}
 use Rattle.foxdec_commands.specs.Outside.{Files, Stream, ReadFailed, HasTrouble, Adds, Says}
 
 -- what shows that a command ended so: it is due, a read or the output failed, or nothing for want
@@ -86,6 +87,7 @@ abbrev pub file_of : Asked → List ℕ
 file_of (check file graph) = file
 file_of (show file address count) = file
 file_of (report file graph) = file
+file_of (lift file roots externs) = file
 
 -- A refusal applies to the executable's file, and the text says which.
 pub record SaysRefused (files : Files) (err : Stream) (asked : Asked) : Type 0 where
@@ -130,6 +132,16 @@ abbrev pub AddsListing : Stream → ℕ → ℕ → List ℕ → Type 0
 AddsListing out address count bytes =
     (image : Image) × IsExecutable bytes image
     × ((lines : List ℕ) × IsListing image count address lines × Adds out lines)
+
+-- The bytes are of an executable, and the text of a well-formed graph was added to the output: it is valid of the executable,
+-- has functions at the file's entry and at these, and every run of the executable that keeps what it prints is safe.
+pub record AddsGraph (out : Stream) (roots bytes : List ℕ) : Type 0 where
+  pub image : Image
+  pub executable : IsExecutable bytes image
+  pub text : List ℕ
+  pub is : IsGraphOf image (image.entry ∷ roots) text
+  pub safe : HasSafeRuns image is.graph
+  pub added : Adds out text
 
 -- the report of a graph of an executable was added to the output
 abbrev pub AddsReport : Stream → Image → Graph → Type 0

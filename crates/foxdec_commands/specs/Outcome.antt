@@ -1,16 +1,18 @@
 -- What the files of a command come to, as far as their bytes are known.
-use Rattle.std.specs.Prelude.{◌≡◌, ◌⊎◌, ℕ, ◌≤◌, List, length, true, Some, None}
+use Rattle.std.specs.Prelude.{◌≡◌, ◌⊎◌, ℕ, ◌≤◌, List, ◌∷◌, length, true, Some, None, All, IsSome}
 use Rattle.std.specs.declared.option.Option.{Option}
 use Rattle.wire_io.specs.Shelf.{IsAll}
 use Rattle.elf_image.specs.declared.image.Image.{Image}
 use Rattle.elf_image.specs.Loaded.{image_of}
 use Rattle.graph_data.specs.declared.graph.Graph.{Graph}
 use Rattle.graph_data.specs.WellFormed.{IsWellFormed}
+use Rattle.graph_data.specs.Lookup.{function_at}
 use Rattle.graph_text.specs.Text.{graph_text}
 use Rattle.graph_verdict.specs.declared.verdict.Verdict.{Verdict}
 use Rattle.edge_checker.specs.Breaks.{IsVerdict}
+use Rattle.edge_checker.specs.Laws.{IsValid}
 use Rattle.report.specs.Text.{IsReport}
-use Rattle.foxdec_commands.specs.Words.{Asked, check, show, report}
+use Rattle.foxdec_commands.specs.Words.{Asked, check, show, report, lift}
 use Rattle.foxdec_commands.specs.declared.file_refusal.FileRefusal.{FileRefusal}
 use Rattle.foxdec_commands.specs.FileRefusal.{limit, executable_refusal}
 use Rattle.foxdec_commands.specs.declared.graph_fault.GraphFault.{GraphFault}
@@ -77,6 +79,20 @@ pub record GivesReport (image : Image) (g : Graph) (ending : Ending) : Type 0 wh
   pub is : IsReport image g text
   pub says : ending ≡ printed true text
 
+-- The bytes are the text of a well-formed graph that is valid of the executable and has a function at each of these entries.
+pub record IsGraphOf (image : Image) (entries bytes : List ℕ) : Type 0 where
+  pub graph : Graph
+  pub formed : IsWellFormed graph
+  pub valid : IsValid image graph
+  pub entered : All (λ entry. IsSome (function_at graph entry)) entries
+  pub spelled : bytes ≡ graph_text graph
+
+-- The ending prints such a text.
+pub record GivesGraph (image : Image) (entries : List ℕ) (ending : Ending) : Type 0 where
+  pub bytes : List ℕ
+  pub are : IsGraphOf image entries bytes
+  pub says : ending ≡ printed true bytes
+
 -- The ending that an executable and a graph come to: the executable is taken first, then the graph,
 -- and then what both give. `Of` says of which bytes of a file it speaks: the known ones, or any
 -- allowed.
@@ -89,7 +105,7 @@ BothComeTo Of known file graph Give ending =
     Give image g ending))))
 
 -- The ending that files come to: for `check` the verdict of an executable and a graph, for `report`
--- the report of both; `show` takes an executable, and prints its instructions.
+-- the report of both; `show` takes an executable, and prints its instructions, `lift` a graph of it.
 abbrev pub ComesTo : (Option (List ℕ) → (List ℕ → Type 0) → Type 0)
     → (List ℕ → Option (List ℕ)) → Asked → Ending → Type 0
 ComesTo Of known (check file graph) ending = BothComeTo Of known file graph GivesVerdict ending
@@ -97,13 +113,23 @@ ComesTo Of known (report file graph) ending = BothComeTo Of known file graph Giv
 ComesTo Of known (show file address count) ending =
     Of (known file) (Takes IsExecutable (λ bytes. IsRefusedFile file bytes ending) (λ image.
     GivesListing image count address ending))
+ComesTo Of known (lift file roots externs) ending =
+    Of (known file) (Takes IsExecutable (λ bytes. IsRefusedFile file bytes ending) (λ image.
+    GivesGraph image (image.entry ∷ roots) ending))
+
+-- The one ending that known files decide; an executable has many graphs, so of `lift` they decide a refusal alone.
+abbrev pub Decides : (List ℕ → Option (List ℕ)) → Asked → Ending → Type 0
+Decides known (check file graph) ending = ComesTo Tells known (check file graph) ending
+Decides known (report file graph) ending = ComesTo Tells known (report file graph) ending
+Decides known (show file address count) ending = ComesTo Tells known (show file address count) ending
+Decides known (lift file roots externs) ending = Tells (known file) (λ bytes. IsRefusedFile file bytes ending)
 
 -- The ending is the one that the files come to, as far as they are known.
 pub record IsDue (known : List ℕ → Option (List ℕ)) (asked : Asked) (ending : Ending) : Type 0 where
   -- what is known of them allows it
   pub allowed : ComesTo Allows known asked ending
   -- and where they decide an ending, it is this one
-  pub decided : (other : Ending) → ComesTo Tells known asked other → ending ≡ other
+  pub decided : (other : Ending) → Decides known asked other → ending ≡ other
 
 -- of an executable and a graph the graph is read only where the executable is not refused
 abbrev pub ReadsBoth : (List ℕ → Option (List ℕ)) → List ℕ → List ℕ → List ℕ → Type 0
@@ -116,3 +142,4 @@ abbrev pub Reads : (List ℕ → Option (List ℕ)) → Asked → List ℕ → T
 Reads known (check file graph) name = ReadsBoth known file graph name
 Reads known (report file graph) name = ReadsBoth known file graph name
 Reads known (show file address count) name = name ≡ file
+Reads known (lift file roots externs) name = name ≡ file

@@ -1,10 +1,10 @@
 -- The words after the program's name: which of them are a command, and what it asks for.
-use Rattle.std.specs.Prelude.{◌⊎◌, ℕ, ◌^◌, nat_lt, nat_le, length, option_and_then, ◌==◌, ◌&&◌, Bool, false, not, List, [], ◌∷◌, codes, if◌then◌else◌, Some, None, ◌≡◌, map, String, string_bytes}
+use Rattle.std.specs.Prelude.{◌⊎◌, ℕ, ◌^◌, nat_lt, nat_le, length, option_and_then, ◌==◌, ◌&&◌, ◌||◌, ◌++◌, is_some, Bool, false, not, List, [], ◌∷◌, codes, if◌then◌else◌, Some, None, ◌≡◌, map, String, string_bytes}
 use Rattle.std.specs.Str.{bytes_eq}
 use Rattle.std.specs.Str.Parse.{digits_value}
 use Rattle.std.specs.Char.{is_digit}
 use Rattle.std.specs.List.{list_all}
-use Rattle.std.specs.Option.{option_map}
+use Rattle.std.specs.Option.{option_map, option_to_list}
 use Rattle.std.specs.declared.option.Option.{Option}
 use Rattle.std.specs.declared.alloc.Global.{Global}
 
@@ -16,6 +16,8 @@ pub data Asked : Type 0 where
   show : List ℕ → ℕ → ℕ → Asked
   -- the report of a graph of an executable: the executable's name and the graph's
   report : List ℕ → List ℕ → Asked
+  -- the graph of the functions of an executable: its name, the entries beside its own, and the addresses that lie outside
+  lift : List ℕ → List ℕ → List ℕ → Asked
 
 -- the character that no name begins with: `-` (ASCII)
 abbrev pub dash : ℕ
@@ -89,13 +91,45 @@ show_of (file ∷ address ∷ count ∷ []) =
     if is_name file then show_from file (address_of address) (count_of count) else None
 show_of words = None
 
+-- the words before an entry and before an address that lies outside
+abbrev pub root_word : List ℕ
+root_word = codes "--root"
+
+abbrev pub extern_word : List ℕ
+extern_word = codes "--extern"
+
+-- an option with its address
+abbrev pub is_option : List ℕ → List ℕ → Bool
+is_option word address = (bytes_eq word root_word || bytes_eq word extern_word) && is_some (address_of address)
+
+-- the file after options
+abbrev pub lifted_file : List (List ℕ) → Option (List ℕ)
+lifted_file [] = None
+lifted_file (file ∷ []) = if is_name file then Some file else None
+lifted_file (word ∷ address ∷ rest) = if is_option word address then lifted_file rest else None
+
+-- the address behind a word, where that is the option
+abbrev pub address_behind : List ℕ → List ℕ → List ℕ → Option ℕ
+address_behind option word address = if bytes_eq word option then address_of address else None
+
+-- the addresses of an option
+abbrev pub addresses_of : List ℕ → List (List ℕ) → List ℕ
+addresses_of option [] = []
+addresses_of option (file ∷ []) = []
+addresses_of option (word ∷ address ∷ rest) = option_to_list (address_behind option word address) ++ addresses_of option rest
+
+-- `lift` has options, in any order, and a name
+abbrev pub lift_of : List (List ℕ) → Option Asked
+lift_of words = option_map (λ file. lift file (addresses_of root_word words) (addresses_of extern_word words)) (lifted_file words)
+
 -- the grammar of the words
 abbrev pub request_of : List (List ℕ) → Option Asked
 request_of [] = None
 request_of (command ∷ words) =
     if bytes_eq command (codes "check") then check_of words
     else (if bytes_eq command (codes "report") then report_of words
-    else (if bytes_eq command (codes "show") then show_of words else None))
+    else (if bytes_eq command (codes "show") then show_of words
+    else (if bytes_eq command (codes "lift") then lift_of words else None)))
 
 -- the words ask for this
 abbrev pub Requests : List (String Global) → Asked → Type 0

@@ -1,10 +1,10 @@
 // What each command does, up to its output.
-ghost use Rattle.std.specs.Prelude.{◌≡◌, true, ◌≤◌, length, map, string_bytes, IfOk, IfErr, Some};
+ghost use Rattle.std.specs.Prelude.{◌≡◌, true, ◌≤◌, ◌∷◌, length, map, string_bytes, IfOk, IfErr, Some};
 ghost use Rattle.wire_io.specs.Shelf.{GoesOn};
 ghost use Rattle.graph_data.specs.WellFormed.{IsWellFormed};
-ghost use Rattle.foxdec_commands.specs.Words.{check, show, report, request_of};
+ghost use Rattle.foxdec_commands.specs.Words.{check, show, report, lift, root_word, extern_word, addresses_of, request_of};
 ghost use Rattle.foxdec_commands.specs.FileRefusal.{limit};
-ghost use Rattle.foxdec_commands.specs.Outcome.{IsExecutable, IsGraphText, IsRefusedFile, IsRefusedGraph, GivesVerdict, GivesListing, GivesReport};
+ghost use Rattle.foxdec_commands.specs.Outcome.{IsExecutable, IsGraphText, IsRefusedFile, IsRefusedGraph, GivesVerdict, GivesListing, GivesReport, GivesGraph, IsGraphOf};
 ghost use Rattle.foxdec_commands.specs.Outside.{files_of};
 ghost use Rattle.foxdec_commands.specs.Guarantee.{IsShown, IsCaused};
 ghost use Rattle.foxdec_commands.specs.FileResult.{IsOnlyOf, IsOnlyRefused, IsTaken, IsRefused, FailedRead, NoRead, IsOrMemory};
@@ -15,13 +15,16 @@ use crate::file_refusal::FileRefusal;
 use crate::graph_fault::GraphFault;
 use crate::listing::list;
 use crate::verdict_line::conclude;
-use crate::words::{Request, read_words};
+use crate::words::{EXTERN, ROOT, Request, addresses_of, read_words};
 use edge_checker::verdict_laws;
 use elf_image::{ElfRefusal, Image, read_elf};
-use graph_data::Graph;
-use graph_text::read_graph;
+use function_lifter::lift_all;
+use graph_data::{Graph, Policy};
+use graph_text::{read_graph, write_graph};
 use instr_at::instr_at_laws;
-use std::alloc::Global;
+use sqlite_items::Items;
+use std::alloc::{AllocError, Global};
+use sym_terms::NoMemory;
 use term_text::TextCause;
 use wire_io::{ReadRefusal, Shelf, read_whole};
 
@@ -48,6 +51,7 @@ pub fn answer<'a, S: Shelf>(
                 count,
             },
         ) => show(alloc, shelf, file, address, count),
+        Some(Request::Lift { file, words }) => lift(alloc, shelf, file, words),
     }
 }
 
@@ -138,6 +142,62 @@ fn report_output<'a>(alloc: Global, image: &Image, g: &Graph) -> Result<Output, 
         Ok(bytes) => Ok(Output { valid: true, bytes }),
         Err(_) => Err(Refusal::OutOfMemory),
     }
+}
+
+// The graph of the functions of an executable, from the entries on that its file and the words give.
+fn lift<'a, S: Shelf>(
+    alloc: Global,
+    shelf: &mut S,
+    file: &'a str,
+    words: &'a [String],
+) -> Result<Output, Refusal<'a>>
+    ensures { IsCaused (files_of ⟦<S as Shelf>⟧ shelf.old shelf.new) ⊥
+        (Some (lift file.now (addresses_of root_word (map string_bytes words.now)) (addresses_of extern_word (map string_bytes words.now)))) (ending_of result) }
+{
+    match take_executable(alloc, shelf, file) {
+        Ok(image) => lifted_output(alloc, &image, words),
+        Err(refusal) => Err(refusal),
+    }
+}
+
+// The output of `lift`, or why there is none.
+fn lifted_output<'a>(
+    alloc: Global,
+    image: &Image,
+    words: &'a [String],
+) -> Result<Output, Refusal<'a>>
+    ensures { IsOrMemory (GivesGraph image.now (image.now.entry ∷ addresses_of root_word (map string_bytes words.now))) (ending_of result) }
+{
+    match lifted_text(alloc, image, words) {
+        Ok(bytes) => Ok(Output { valid: true, bytes }),
+        Err(_) => Err(Refusal::OutOfMemory),
+    }
+}
+
+// The text of a graph that is valid of an executable.
+fn lifted_text(alloc: Global, image: &Image, words: &[String]) -> Result<Vec<u8>, NoMemory>
+    ensures { IfOk result (λ text. IsGraphOf image.now (image.now.entry ∷ addresses_of root_word (map string_bytes words.now)) text.items) }
+{
+    let policy = policy_of(alloc, image.entry, words)?;
+    let g = lift_all(alloc, image, &policy)?;
+    let text = write_graph(alloc, &g)?;
+    Ok(text)
+}
+
+// From which entries on to lift, and which addresses lie outside.
+fn policy_of(alloc: Global, entry: u64, words: &[String]) -> Result<Policy, AllocError>
+    ensures roots { IfOk result (λ p. p.roots ≡ entry ∷ addresses_of root_word (map string_bytes words.now)) }
+    ensures externs { IfOk result (λ p. p.externs ≡ addresses_of extern_word (map string_bytes words.now)) }
+{
+    let mut roots = Vec::from_slice(alloc, &[entry])?;
+    let more = addresses_of(alloc, ROOT, words)?;
+    roots.extend_from_slice(more.as_slice())?;
+    let externs = addresses_of(alloc, EXTERN, words)?;
+    Ok(Policy {
+        roots: Items::from_vec(roots),
+        externs: Items::from_vec(externs),
+        fork: false,
+    })
 }
 
 // Reads the file of an executable.

@@ -7,17 +7,17 @@ ghost use Rattle.graph_data.specs.declared.graph.Graph.{Graph as PlainGraph};
 ghost use Rattle.graph_runs.specs.World.{HasSafeRuns};
 ghost use Rattle.edge_checker.specs.Laws.{IsValid};
 ghost use Rattle.report.specs.Text.{IsReport};
-ghost use Rattle.foxdec_commands.specs.Words.{Asked, Requests, TakesBoth, check, show, report, request_of};
+ghost use Rattle.foxdec_commands.specs.Words.{Asked, Requests, TakesBoth, check, show, report, lift, request_of};
 ghost use Rattle.foxdec_commands.specs.Ending.{Ending, file_refused, graph_refused, output_of, text_of};
 ghost use Rattle.foxdec_commands.specs.VerdictLine.{valid_line, invalid_line};
 ghost use Rattle.foxdec_commands.specs.Listing.{IsListing};
-ghost use Rattle.foxdec_commands.specs.Outcome.{Tells, Allows, ComesTo, IsExecutable, IsGraphText};
+ghost use Rattle.foxdec_commands.specs.Outcome.{Allows, Decides, IsExecutable, IsGraphText};
 ghost use Rattle.foxdec_commands.specs.declared.file_refusal.FileRefusal.{FileRefusal};
 ghost use Rattle.foxdec_commands.specs.FileRefusal.{executable_refusal};
 ghost use Rattle.foxdec_commands.specs.declared.graph_fault.GraphFault.{GraphFault};
 ghost use Rattle.foxdec_commands.specs.GraphFault.{graph_refusal};
 ghost use Rattle.foxdec_commands.specs.Outside.{HasTrouble, Says, files_of, stream_of};
-ghost use Rattle.foxdec_commands.specs.Guarantee.{Ends, Gives, GivesDue, file_of, SaysUnreadable, SaysRefused, SaysFaulted, IsCutOff, IsAnswered, IsSilent, IsExcused, IsUnreadable, AddsListing, HoldsBetween, AllowsBoth, AddsReport, IsFirstBroken};
+ghost use Rattle.foxdec_commands.specs.Guarantee.{Ends, Gives, GivesDue, file_of, SaysUnreadable, SaysRefused, SaysFaulted, IsCutOff, IsAnswered, IsSilent, IsExcused, IsUnreadable, AddsListing, HoldsBetween, AllowsBoth, AddsReport, AddsGraph, IsFirstBroken};
 
 use crate::commands::answer;
 use crate::ending::{say_refusal, say_write_failed};
@@ -66,10 +66,14 @@ fn run<S: Shelf, O: Sink, E: Sink>(
 /// address in hexadecimal, the bytes, and the text; the next one stands where it ends, modulo
 /// 2^64. Where no instruction stands, the line is the address and ` none`, and the last one.
 ///
+/// `lift OPTIONS FILE` prints the text of a graph that is valid of FILE: of the function at FILE's entry, of those at the entries
+/// given by `--root H`, and of all that these call; one whose entry is no code is refused. No function is lifted at an address
+/// given by `--extern H`. The options stand in any order, each as often as wanted.
+///
 /// `report FILE GRAPH` reads both as `check` does and prints the report of the graph. It judges
 /// nothing.
 ///
-/// - 0: the listing or the report is written; or the graph is valid, and `valid` with a line feed
+/// - 0: the listing, the report or the graph is written; or the graph is valid, and `valid` with a line feed
 ///   is written to `out`.
 /// - 1: it is not, and `invalid FUNCTION SITE VERTEX CASE RULE` with a line feed is written, the
 ///   place of the first rule that is broken: addresses modulo 2^64 in hexadecimal, the vertex's
@@ -147,7 +151,7 @@ pub fn foxdec<S: Shelf, O: Sink, E: Sink>(
 
     // What known files decide is given, unless a read or `out` failed or memory ran out.
     ensures decided { (asked : Asked) (due : Ending) → Requests words.now asked →
-        ComesTo Tells (S.file shelf.old) asked due →
+        Decides (S.file shelf.old) asked due →
         Gives (stream_of ⟦<O as Sink>⟧ out.old out.new)
         (stream_of ⟦<E as Sink>⟧ err.old err.new) result due
         ⊎ IsExcused (files_of ⟦<S as Shelf>⟧ shelf.old shelf.new)
@@ -204,6 +208,18 @@ pub fn foxdec<S: Shelf, O: Sink, E: Sink>(
         ⊎ IsExcused (files_of ⟦<S as Shelf>⟧ shelf.old shelf.new)
         (stream_of ⟦<O as Sink>⟧ out.old out.new) (report file graph) result }
 
+    // `lift` answers 0 only with the text of a graph that is valid of the executable and has a function at the file's entry and
+    // at each one of the words; every run that keeps what it prints is safe ..
+    ensures lifted { (file roots externs : List ℕ) → Requests words.now (lift file roots externs) → result ≡ 0 →
+        Allows (S.file shelf.old file) (AddsGraph (stream_of ⟦<O as Sink>⟧ out.old out.new) roots) }
+    // .. and everywhere the file is an executable, but for the same excuses.
+    ensures all_lifted { (file roots externs bytes : List ℕ) (image : PlainImage) →
+        Requests words.now (lift file roots externs) →
+        S.file shelf.old file ≡ Some bytes → IsExecutable bytes image →
+        ((result ≡ 0) × AddsGraph (stream_of ⟦<O as Sink>⟧ out.old out.new) roots bytes)
+        ⊎ IsExcused (files_of ⟦<S as Shelf>⟧ shelf.old shelf.new)
+        (stream_of ⟦<O as Sink>⟧ out.old out.new) (lift file roots externs) result }
+
     // `show` answers 0 only with the listing of an executable ..
     ensures shown { (file : List ℕ) (address count : ℕ) →
         Requests words.now (show file address count) → result ≡ 0 →
@@ -240,7 +256,7 @@ pub fn foxdec_quiet<E: Sink>(
     requires { ⟦<QuietSink as Sink>⟧.stalls out.old ≡ 0 }
     ensures { (asked : Asked) (due : Ending) (most : ℕ) (bytes : List ℕ) →
         Requests words.now asked →
-        ComesTo Tells (⟦<QuietShelf as Shelf>⟧.file shelf.old) asked due →
+        Decides (⟦<QuietShelf as Shelf>⟧.file shelf.old) asked due →
         ⟦<QuietSink as Sink>⟧.room out.old ≡ Some most →
         ⟦<QuietSink as Sink>⟧.written out.old ≡ Some bytes →
         length bytes + length (output_of due) ≤ most →

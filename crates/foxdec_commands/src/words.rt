@@ -1,8 +1,10 @@
 // What the words after the program's name ask for.
-ghost use Rattle.std.specs.Prelude.{◌≡◌, ◌≤◌, map, string_bytes};
+ghost use Rattle.std.specs.Prelude.{◌≡◌, ◌≤◌, map, string_bytes, IfOk};
 ghost use Rattle.std.specs.Option.{option_map};
-ghost use Rattle.foxdec_commands.specs.Words.{is_name, begins_with, number_of, address_of, count_of, parsed_in_range, names_of, check_of, report_of, show_from, show_of, request_of};
+ghost use Rattle.foxdec_commands.specs.Words.{is_name, begins_with, number_of, address_of, count_of, parsed_in_range, names_of, check_of, report_of, show_from, show_of, is_option, lifted_file, address_behind, addresses_of, lift_of, request_of};
 ghost use Rattle.foxdec_commands.specs.View.{asked_of};
+
+use std::alloc::{AllocError, Global};
 
 /// The most instructions that are shown.
 const MOST_SHOWN: u64 = 65_536;
@@ -23,7 +25,18 @@ pub enum Request<'a> {
         file: &'a str,
         graph: &'a str,
     },
+    Lift {
+        file: &'a str,
+        /// All words after `lift`.
+        words: &'a [String],
+    },
 }
+
+/// The word before an entry.
+pub const ROOT: &str = "--root";
+
+/// The word before an address that lies outside.
+pub const EXTERN: &str = "--extern";
 
 /// What the words ask for, if they are a command.
 pub fn read_words(words: &[String]) -> Option<Request<'_>>
@@ -36,6 +49,7 @@ pub fn read_words(words: &[String]) -> Option<Request<'_>>
         "check" => check_words(rest),
         "report" => report_words(rest),
         "show" => show_words(rest),
+        "lift" => lift_words(rest),
         _ => None,
     }
 }
@@ -93,6 +107,61 @@ fn show_request(file: &str, address: Option<u64>, count: Option<u64>) -> Option<
         }),
         _ => None,
     }
+}
+
+fn lift_words(words: &[String]) -> Option<Request<'_>>
+    ensures { option_map asked_of result ≡ lift_of (map string_bytes words.now) }
+{
+    let file = lifted_file(words)?;
+    Some(Request::Lift { file, words })
+}
+
+// The file after options, each with an address.
+fn lifted_file(words: &[String]) -> Option<&str>
+    ensures { option_map (λ file. file.now) result ≡ lifted_file (map string_bytes words.now) }
+{
+    let mut rest = words;
+    while let [word, address, others @ ..] = rest {
+        if !is_option(word.as_str(), address.as_str()) {
+            return None;
+        }
+        rest = others;
+    }
+    match rest {
+        [file] if is_name(file.as_str()) => Some(file.as_str()),
+        _ => None,
+    }
+}
+
+fn is_option(word: &str, address: &str) -> bool
+    ensures { result ≡ is_option word.now address.now }
+{
+    (word == ROOT || word == EXTERN) && address_of(address).is_some()
+}
+
+fn address_behind(option: &str, word: &str, address: &str) -> Option<u64>
+    ensures { result ≡ address_behind option.now word.now address.now }
+{
+    if word == option {
+        address_of(address)
+    } else {
+        None
+    }
+}
+
+/// The addresses of an option among the words of `lift`, in their order.
+pub fn addresses_of(alloc: Global, option: &str, words: &[String]) -> Result<Vec<u64>, AllocError>
+    ensures { IfOk result (λ found. found.items ≡ addresses_of option.now (map string_bytes words.now)) }
+{
+    let mut found = Vec::new(alloc);
+    let mut rest = words;
+    while let [word, address, others @ ..] = rest {
+        if let Some(address) = address_behind(option, word.as_str(), address.as_str()) {
+            found.push(address)?;
+        }
+        rest = others;
+    }
+    Ok(found)
 }
 
 fn is_name(word: &str) -> bool

@@ -1,6 +1,7 @@
 use Rattle.foxdec_commands.proofs.GuaranteeLemmas.{two, unreadable, cut, answers, silent_written, decides, completes}
 use Rattle.foxdec_commands.proofs.CheckLemmas.{only_refused, all_refused, only_shown, all_shown, only_reported, all_reported, only_safe, only_valid, all_valid, only_broken, all_broken}
 use Rattle.foxdec_commands.proofs.FaultLemmas.{only_faulted, all_faulted}
+use Rattle.foxdec_commands.proofs.LiftLemmas.{only_lifted, all_lifted}
 use Rattle.foxdec_commands.proofs.top.foxdec.Goals as goal
 
 pub returns-clause-words : goal.returns-clause-words
@@ -64,3 +65,9 @@ returns-clause-all_shown g c file bytes lines address count image request is for
 pub returns-clause-safe : goal.returns-clause-safe
 returns-clause-safe g c file graph bytes text image h request is file_is graph_is executable spelled =
     only_safe _ _ _ file graph _ (rw request at c.run.ensures.ends) c.verdict_laws.ensures.valid c.runs_are_safe.ensures c.graph_text_laws.ensures.one_text is bytes text image h file_is graph_is executable spelled
+
+pub returns-clause-lifted : goal.returns-clause-lifted
+returns-clause-lifted g c file roots externs request is = only_lifted _ _ _ file roots externs _ c.runs_are_safe.ensures (rw request at c.run.ensures.ends) is
+
+pub returns-clause-all_lifted : goal.returns-clause-all_lifted
+returns-clause-all_lifted g c file roots externs bytes image request is form = all_lifted _ _ _ file roots externs _ c.runs_are_safe.ensures (rw request at c.run.ensures.ends) bytes image is form
