@@ -1,11 +1,11 @@
 // What `lift` prints of small programs: graphs that `check` calls valid.
 use crate::compiled_graph::{COMPILED, COMPILED_CODE};
 use crate::graphs::*;
-use crate::whole_graphs::files;
+use crate::whole_graphs::{executable, files, put_file};
 use foxdec_commands::foxdec;
 use std::alloc::Global;
 use std::process::Abort;
-use wire_io::{NoMemory, QuietShelf, QuietSink};
+use wire_io::{MemSink, NoMemory, QuietShelf, QuietSink};
 
 // The words of `lift` with these options, parted by blanks, and the file `a`.
 fn words(alloc: Global, options: &str) -> Result<Vec<String>, NoMemory> {
@@ -103,4 +103,114 @@ static ROOTS: [Lifted; 6] = [
 #[test]
 fn functions_begin_at_the_roots(rt: HostRuntime) -> Result<(), NoMemory> {
     assert_lifted(&rt, rt.alloc(), &ROOTS)
+}
+
+// A switch whose table can be written, in a segment of its own (ELF-64: file header, two program headers).
+const WRITABLE_TABLE_FILE: &[u8] =
+    b"\x7fELF\x02\x01\x01\0\0\0\0\0\0\0\0\0\x02\0>\0\x01\0\0\0\xb0\0@\0\0\0\0\0@\0\0\0\0\0\0\0\0\0\0\0\0\0\0\
+\0\0\0\0\0@\0\x38\0\x02\0\0\0\0\0\0\0\x01\0\0\0\x05\0\0\0\0\0\0\0\0\0\0\0\0\0@\0\0\0\0\0\0\0@\0\0\0\0\
+\0\xc8\0\0\0\0\0\0\0\xc8\0\0\0\0\0\0\0\0\x10\0\0\0\0\0\0\x01\0\0\0\x06\0\0\0\xc8\0\0\0\0\0\0\0\xc8\0`\
+\0\0\0\0\0\xc8\0`\0\0\0\0\0 \0\0\0\0\0\0\0 \0\0\0\0\0\0\0\0\x10\0\0\0\0\0\0\x83\xff\x03w\x0b\x89\xf8\xff\
+$\xc5\xc8\0`\0\xc3\xc3\xc3\xcc\xcc\xcc\xcc\xcc\xcc\xcc\xbe\0@\0\0\0\0\0\xbf\0@\0\0\0\0\0\xbe\0@\0\0\0\
+\0\0\xc0\0@\0\0\0\0\0";
+
+const WRITABLE_TABLE: &str = "foxdec graph 1
+f 4000b0 65536 4096
+s 4000b0 step
+v 0
+c [rsp0;8]=ra
+> 4000b3:0
+s 4000b3 step
+v 0
+z 32 zx32(rdi0) 3
+c [rsp0;8]=ra
+> 4000c0:0 4000b5:0
+s 4000b5 step
+v 0
+z 32 zx32(rdi0) 3
+b zx32(rdi0) 0..3
+c [rsp0;8]=ra
+> 4000b7:0
+s 4000b7 end unresolved
+v 0
+r rax=zx32(rdi0)
+z 32 zx32(rdi0) 3
+b zx32(rdi0) 0..3
+c [rsp0;8]=ra
+s 4000c0 ret
+v 0
+z 32 zx32(rdi0) 3
+b zx32(rdi0) 4..0xffffffff
+c [rsp0;8]=ra
+end
+";
+
+// What `lift a` prints of a file into a room of so many bytes.
+fn lifted_file(alloc: Global, file: Vec<u8>, room: u64) -> Result<Vec<u8>, NoMemory> {
+    let words = words(alloc, "lift a")?;
+    let mut files = Vec::new(alloc);
+    put_file(alloc, &mut files, "a", file)?;
+    let mut shelf = QuietShelf::new(files, 4096);
+    let mut out = QuietSink::new(alloc, room)?;
+    let mut err = QuietSink::new(alloc, 4096)?;
+    foxdec(alloc, &words, &mut shelf, &mut out, &mut err);
+    Ok(out.bytes().to_vec(alloc)?)
+}
+
+#[test]
+fn a_table_that_can_be_written_tells_no_targets(rt: HostRuntime) -> Result<(), NoMemory> {
+    let alloc = rt.alloc();
+    let file = Vec::from_slice(alloc, WRITABLE_TABLE_FILE)?;
+    let out = lifted_file(alloc, file, 65_536)?;
+    assert_eq!(rt; out.as_slice(), WRITABLE_TABLE.as_bytes(), "the graph");
+    Ok(())
+}
+
+#[test]
+fn an_entry_that_is_no_code_is_refused(rt: HostRuntime) -> Result<(), NoMemory> {
+    let alloc = rt.alloc();
+    let mut file = executable(alloc, b"\xc3")?;
+    // The low byte of e_entry (ELF-64, file header).
+    if let Some(entry) = file.get_mut(24) {
+        *entry = 0x79;
+    }
+    let out = lifted_file(alloc, file, 65_536)?;
+    let graph = b"foxdec graph 1\nx 400079 notcode\nend\n";
+    assert_eq!(rt; out.as_slice(), graph.as_slice(), "the graph");
+    Ok(())
+}
+
+#[test]
+fn a_long_run_is_lifted_whole(rt: HostRuntime) -> Result<(), NoMemory> {
+    let alloc = rt.alloc();
+    let mut code = vec![in alloc; 0x90; 16_384]?;
+    code.extend_from_slice(b"\xc3")?;
+    let out = lifted_file(alloc, executable(alloc, code.as_slice())?, 2_097_152)?;
+    let sites = out
+        .as_slice()
+        .windows(3)
+        .filter(|w| *w == b"\ns ".as_slice())
+        .count();
+    assert_eq!(rt; sites, 16_385, "the sites");
+    Ok(())
+}
+
+#[test]
+fn a_graph_that_is_cut_off_has_its_first_bytes(rt: HostRuntime) -> Result<(), NoMemory> {
+    let alloc = rt.alloc();
+    let words = words(alloc, "lift a")?;
+    let mut shelf = QuietShelf::new(files(alloc, RETURN_CODE, b"")?, 4096);
+    let mut failing = Vec::new(alloc);
+    failing.extend_from_slice(&[1])?;
+    let mut out = MemSink::new(alloc, 65_536, 10, failing)?;
+    let mut err = QuietSink::new(alloc, 4096)?;
+    let status = foxdec(alloc, &words, &mut shelf, &mut out, &mut err);
+    assert_eq!(rt; status, 6, "the status");
+    assert_eq!(rt; out.bytes(), b"foxdec gra".as_slice(), "what was written");
+    assert_eq!(rt;
+        err.bytes(),
+        b"foxdec: write failed after 10 bytes\n".as_slice(),
+        "the text"
+    );
+    Ok(())
 }

@@ -16,7 +16,7 @@ const HEADERS: &[u8; 96] = b"\x7fELF\x02\x01\x01\0\0\0\0\0\0\0\0\0\
 \0\0\x40\0\0\0\0\0\0\0\x40\0\0\0\0\0";
 
 // An executable whose code is these bytes, at 0x400078.
-fn executable(alloc: Global, code: &[u8]) -> Result<Vec<u8>, NoMemory> {
+pub(crate) fn executable(alloc: Global, code: &[u8]) -> Result<Vec<u8>, NoMemory> {
     let size = (code.len() as u64).saturating_add(120).to_le_bytes();
     let mut file = Vec::from_slice(alloc, HEADERS)?;
     file.extend_from_slice(&size)?;
@@ -38,7 +38,7 @@ fn words(alloc: Global) -> Result<Vec<String>, NoMemory> {
     Ok(words)
 }
 
-fn put_file(
+pub(crate) fn put_file(
     alloc: Global,
     files: &mut Vec<(String, Vec<u8>)>,
     name: &str,
