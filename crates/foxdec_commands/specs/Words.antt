@@ -91,10 +91,11 @@ show_of (file ∷ address ∷ count ∷ []) =
     if is_name file then show_from file (address_of address) (count_of count) else None
 show_of words = None
 
--- the words before an entry and before an address that lies outside
+-- the word before an entry
 abbrev pub root_word : List ℕ
 root_word = codes "--root"
 
+-- the word before an address that lies outside
 abbrev pub extern_word : List ℕ
 extern_word = codes "--extern"
 

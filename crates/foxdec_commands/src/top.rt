@@ -67,8 +67,8 @@ fn run<S: Shelf, O: Sink, E: Sink>(
 /// 2^64. Where no instruction stands, the line is the address and ` none`, and the last one.
 ///
 /// `lift OPTIONS FILE` prints the text of a graph that is valid of FILE: of the function at FILE's entry, of those at the entries
-/// given by `--root H`, and of all that these call; one whose entry is no code is refused. No function is lifted at an address
-/// given by `--extern H`. The options stand in any order, each as often as wanted.
+/// given by `--root H`, and of all that these call; one whose entry is no code is refused. At an address given by `--extern H` a
+/// function ends, and a call of it isn't followed. The options stand in any order, each as often as wanted.
 ///
 /// `report FILE GRAPH` reads both as `check` does and prints the report of the graph. It judges
 /// nothing.
