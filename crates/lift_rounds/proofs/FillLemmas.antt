@@ -32,7 +32,7 @@ pub held_push : {P : Type 0} (has : P → Type 0) (xs : List (Made P)) (x : Made
 held_push {P = P} has xs x all e f =
     All-append (λ (m : Made P). IsHeld has m) xs (x ∷ []) all (All-cons (λ (m : Made P). IsHeld has m) x [] (record { pred = rw e tt; cases = rw f (All-nil (λ c. has c.pred)) }) (All-nil (λ (m : Made P). IsHeld has m)))
 
-same_address : (old new : List Key) (v : ℕ) → v < length old → ((u : ℕ) (k : Key) → slice_get old u ≡ Some k → slice_get new u ≡ Some k) → (address_at new v ≡ address_at old v) × (tag_at new v ≡ tag_at old v)
+pub same_address : (old new : List Key) (v : ℕ) → v < length old → ((u : ℕ) (k : Key) → slice_get old u ≡ Some k → slice_get new u ≡ Some k) → (address_at new v ≡ address_at old v) × (tag_at new v ≡ tag_at old v)
 same_address [] new v l h = absurd (omega arith)
 same_address (x ∷ xs) [] v l h = absurd (let f = h 0 x refl in let z : ⊥ = cc in z)
 same_address (x ∷ xs) (y ∷ ys) zero l h = let f : Some y ≡ Some x = h 0 x refl in let e : y ≡ x = cc in (ap (λ (k : Key). k.address) e, ap (λ (k : Key). k.tag) e)

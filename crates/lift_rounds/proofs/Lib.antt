@@ -10,3 +10,5 @@ pub mod CalmLemmas
 pub mod FillLemmas
 pub mod AddressLemmas
 pub mod FirstLemmas
+pub mod FixedLemmas
+pub mod PlainLemmas

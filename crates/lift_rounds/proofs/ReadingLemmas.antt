@@ -1,5 +1,6 @@
 -- What is known, as it reads: what is read of it, and what a write leaves.
-use Rattle.std.proofs.Common.{◌≡◌, ◌≢◌, ◌<◌, ◌≤◌, ℕ, zero, suc, List, [], ◌∷◌, Option, Some, None, map, length, get_or, set, slice_get, IfSome, refl, sym, ap, ◌∙◌, subst, arith}
+use Rattle.std.proofs.Common.{Result, Err, ◌≡◌, ◌≢◌, ◌<◌, ◌≤◌, ℕ, zero, suc, List, [], ◌∷◌, Option, Some, None, map, length, get_or, set, slice_get, IfSome, refl, sym, ap, ◌∙◌, subst, arith}
+use Rattle.std.specs.Result.{IsErrAnd}
 use Rattle.std.specs.List.{All}
 use Rattle.std.specs.Option.{option_map}
 use Rattle.std.proofs.lemmas.List.Elements.{All-head, All-tail, All-weaker}
@@ -125,22 +126,30 @@ pub addresses_reading : {P R : Type 0} (read : P → R) (cs : List (Case P)) →
 addresses_reading read [] = refl
 addresses_reading read (c ∷ cs) = let e = addresses_reading read cs in cc
 
--- a vertex has the cases of its predicate
-pub cases_made : {R : Type 0} (m : Meaning R) (address : ℕ) (site : List ℕ) (v : ℕ) (before mid after : List (Known R)) (cs : List (Case R)) → mid ≡ before → cases_from m address (map (pred_at before) site) (pred_at before v) ≡ Some cs → cases_at after v ≡ cs → ((u : ℕ) → u ≢ v → cases_at after u ≡ cases_at mid u) → ((u : ℕ) → pred_at after u ≡ pred_at mid u) → HasCases m before after address site v
-cases_made m address site v before mid after cs e value here others preds =
+-- the cases of one vertex alone changed
+pub cases_made : {R : Type 0} (v : ℕ) (before mid after : List (Known R)) → mid ≡ before → ((u : ℕ) → u ≢ v → cases_at after u ≡ cases_at mid u) → ((u : ℕ) → pred_at after u ≡ pred_at mid u) → HasCases before after v
+cases_made v before mid after e others preds = record { others = λ u n. others u n ∙ ap (λ l. cases_at l u) e; preds = λ u. preds u ∙ ap (λ l. pred_at l u) e }
+
+-- they are those of its predicate
+cased_made : {R : Type 0} (m : Meaning R) (address : ℕ) (site : List ℕ) (v : ℕ) (before mid after : List (Known R)) (cs : List (Case R)) → mid ≡ before → cases_from m address (map (pred_at before) site) (pred_at before v) ≡ Some cs → cases_at after v ≡ cs → ((u : ℕ) → pred_at after u ≡ pred_at mid u) → cases_from m address (map (pred_at after) site) (pred_at after v) ≡ Some (cases_at after v)
+cased_made m address site v before mid after cs e value here preds =
     let same : (u : ℕ) → pred_at after u ≡ pred_at before u = λ u. preds u ∙ ap (λ l. pred_at l u) e in
-    record {
-      cases = ap (λ os. cases_from m address os (pred_at after v)) (map_same (pred_at after) (pred_at before) site same) ∙ ap (cases_from m address (map (pred_at before) site)) (same v) ∙ value ∙ ap Some (sym here);
-      others = λ u n. others u n ∙ ap (λ l. cases_at l u) e;
-      preds = same;
-    }
+    ap (λ os. cases_from m address os (pred_at after v)) (map_same (pred_at after) (pred_at before) site same) ∙ ap (cases_from m address (map (pred_at before) site)) (same v) ∙ value ∙ ap Some (sym here)
 
 -- what reads as before reads as before under another name
 pub grown : {P R : Type 0} (read later : P → R) (xs ys : List (Made P)) → xs ≡ ys → reading later xs ≡ reading read xs → reading later ys ≡ reading read ys
 grown {P = P} read later xs ys e h = subst (λ (zs : List (Made P)). reading later zs ≡ reading read zs) e h
 
 -- a vertex has the cases of its predicate, after the store grew
-pub has_cases : {P R : Type 0} (m : Meaning R) (read later : P → R) (address : ℕ) (site : List ℕ) (v : ℕ) (slice old new : List (Made P)) (cs : List (Case R)) → slice ≡ old → reading later slice ≡ reading read slice → cases_from m address (map (pred_at (reading read slice)) site) (pred_at (reading read slice) v) ≡ Some cs → cases_at (reading later new) v ≡ cs → ((u : ℕ) → u ≢ v → cases_at (reading later new) u ≡ cases_at (reading later old) u) → ((u : ℕ) → pred_at (reading later new) u ≡ pred_at (reading later old) u) → HasCases m (reading read old) (reading later new) address site v
-has_cases {P = P} m read later address site v slice old new cs e reads value here others preds =
-    cases_made m address site v (reading read old) (reading later old) (reading later new) cs (grown read later slice old e reads)
-    (subst (λ (zs : List (Made P)). cases_from m address (map (pred_at (reading read zs)) site) (pred_at (reading read zs) v) ≡ Some cs) e value) here others preds
+pub has_cases : {P R : Type 0} (m : Meaning R) (read later : P → R) (address : ℕ) (site : List ℕ) (v : ℕ) (slice old new : List (Made P)) (cs : List (Case R)) → slice ≡ old → reading later slice ≡ reading read slice → cases_from m address (map (pred_at (reading read slice)) site) (pred_at (reading read slice) v) ≡ Some cs → cases_at (reading later new) v ≡ cs → ((u : ℕ) → pred_at (reading later new) u ≡ pred_at (reading later old) u) → cases_from m address (map (pred_at (reading later new)) site) (pred_at (reading later new) v) ≡ Some (cases_at (reading later new) v)
+has_cases {P = P} m read later address site v slice old new cs e reads value here preds =
+    cased_made m address site v (reading read old) (reading later old) (reading later new) cs (grown read later slice old e reads)
+    (subst (λ (zs : List (Made P)). cases_from m address (map (pred_at (reading read zs)) site) (pred_at (reading read zs) v) ≡ Some cs) e value) here preds
+
+-- what is told of what there is
+pub told : {A : Type 0} (P : A → Type 0) (o : Option A) (x : A) → o ≡ Some x → IfSome o P → P x
+told P o x e h = subst (λ y. IfSome y P) e h
+
+-- what is told of the fault that there is
+pub told_fault : {A E : Type 0} (P : E → Type 0) (r : Result A E) (x : E) → r ≡ Err x → IsErrAnd r P → P x
+told_fault P r x e h = subst (λ y. IsErrAnd y P) e h

@@ -23,7 +23,8 @@ pub record Taking {R : Type 0} (f : Frame R) (first made after : List (Known R))
   pub long : length taken ≡ length f.keeps
   pub fresh : is_set taken v ≡ false
   pub ready : IsReady f.keeps f.inward taken v
-  pub visit : IsVisit f.meaning made after (items_at f.inward v) (f.address v) (f.site v) (is_set f.keeps v) v
+  pub visit : IsVisit f.meaning made after (items_at f.inward v) (is_set f.keeps v) v
+  pub cased : IsCased f after v
   pub outcome : IsOutcome c (is_set f.keeps v) made after v
   pub small : c ≢ Found
 
@@ -114,7 +115,7 @@ cased_there {f = f} {first = first} {made = made} {after = after} {taken = taken
 
 cased_step : {R : Type 0} {f : Frame R} {first made after : List (Known R)} {taken : List Bool} {change c : Change} {v : ℕ} → Taking f first made after taken change c v → worse change c ≢ Found → IsSteady f (worse change c) → (u : ℕ) → is_set (set taken v true) u ≡ true → IsCased f after u
 cased_step {f = f} {after = after} t small steady u h = elim (which t u h) as (λ _. IsCased f after u) [
-  | inl e ↦ subst (IsCased f after) (sym e) t.visit.cases
+  | inl e ↦ subst (IsCased f after) (sym e) t.cased
   | inr o ↦ cased_there t steady small u o.0 o.1
 ]
 
@@ -150,7 +151,7 @@ changed_step {f = f} {first = first} {made = made} {after = after} {change = cha
             | inr d ↦ sym (one u) ∙ sym (t.visit.other_preds u d)
           ] in
           let cases : Some (cases_at after v) ≡ Some (cases_at first v) =
-          sym t.visit.cases ∙ sym (ap (λ os. cases_from f.meaning (f.address v) os (pred_at after v)) (map_on (pred_at first) (pred_at after) (f.site v) (λ x _. preds x))) ∙ ap (cases_from f.meaning (f.address v) (map (pred_at first) (f.site v))) (sym (preds v)) ∙ all.cased v within in
+          sym t.cased ∙ sym (ap (λ os. cases_from f.meaning (f.address v) os (pred_at after v)) (map_on (pred_at first) (pred_at after) (f.site v) (λ x _. preds x))) ∙ ap (cases_from f.meaning (f.address v) (map (pred_at first) (f.site v))) (sym (preds v)) ∙ all.cased v within in
           let equal : cases_at after v ≡ cases_at first v = cc in
           t.outcome.changed h.1 same (equal ∙ sym (two v)))
     ]

@@ -12,17 +12,14 @@ use Rattle.lift_rounds.specs.declared.data.Change.{Change}
 use Rattle.lift_rounds.specs.declared.data.Change.TheVariants.{Nothing, Made as MadeChange, Head, Found}
 use Rattle.lift_rounds.proofs.RoundLemmas.{worse_head, worse_nothing, worse_made, worse_found}
 
-pub visit_made : {R : Type 0} (m : Meaning R) (before mid after : List (Known R)) (places places' : List Place) (address address' : ℕ) (site site' : List ℕ) (keeps keeps' : Bool) (v : ℕ) → places ≡ places' → address ≡ address' → site ≡ site' → keeps ≡ keeps' → HasPred m before mid places keeps v → HasCases m mid after address site v → IsVisit m before after places' address' site' keeps' v
-visit_made m before mid after places places' address address' site site' keeps keeps' v ep ea es ek p c =
-    subst (λ ps. IsVisit m before after ps address' site' keeps' v) ep
-    (subst (λ a. IsVisit m before after places a site' keeps' v) ea
-    (subst (λ s. IsVisit m before after places address s keeps' v) es
-    (subst (λ k. IsVisit m before after places address site k v) ek (record {
+pub visit_made : {R : Type 0} (m : Meaning R) (before mid after : List (Known R)) (places places' : List Place) (keeps keeps' : Bool) (v : ℕ) → places ≡ places' → keeps ≡ keeps' → HasPred m before mid places keeps v → HasCases mid after v → IsVisit m before after places' keeps' v
+visit_made m before mid after places places' keeps keeps' v ep ek p c =
+    subst (λ ps. IsVisit m before after ps keeps' v) ep
+    (subst (λ k. IsVisit m before after places k v) ek (record {
       pred = c.preds v ∙ p.pred;
-      cases = c.cases;
       other_preds = λ u n. c.preds u ∙ p.others u n;
       other_cases = λ u n. c.others u n ∙ p.cases u;
-    }))))
+    }))
 
 -- what the two halves say
 pub record AreChanges {R : Type 0} (a b : Change) (keeps : Bool) (before mid after : List (Known R)) (v : ℕ) : Type 0 where
@@ -35,8 +32,8 @@ pub record AreChanges {R : Type 0} (a b : Change) (keeps : Bool) (before mid aft
   pub changed_cases : b ≡ MadeChange → cases_at after v ≢ cases_at mid v
   pub small : b ≢ Head
 
-pub visit_outcome : {R : Type 0} (m : Meaning R) (before mid after : List (Known R)) (places : List Place) (address : ℕ) (site : List ℕ) (keeps keeps' : Bool) (v : ℕ) (a b : Change) → keeps ≡ keeps' → HasPred m before mid places keeps v → HasCases m mid after address site v → AreChanges a b keeps before mid after v → IsOutcome (worse a b) keeps' before after v
-visit_outcome m before mid after places address site keeps keeps' v a b ek p c s = subst (λ k. IsOutcome (worse a b) k before after v) ek (record {
+pub visit_outcome : {R : Type 0} (m : Meaning R) (before mid after : List (Known R)) (places : List Place) (keeps keeps' : Bool) (v : ℕ) (a b : Change) → keeps ≡ keeps' → HasPred m before mid places keeps v → HasCases mid after v → AreChanges a b keeps before mid after v → IsOutcome (worse a b) keeps' before after v
+visit_outcome m before mid after places keeps keeps' v a b ek p c s = subst (λ k. IsOutcome (worse a b) k before after v) ek (record {
   nothing = λ e. let w = worse_nothing a b e in record {
     preds = λ u. elim (cases_eq u v) as (λ _. pred_at after u ≡ pred_at before u) [ inl i ↦ subst (λ x. pred_at after x ≡ pred_at before x) (sym i) (c.preds v ∙ s.nothing_pred w.0) | inr n ↦ c.preds u ∙ p.others u n ];
     cases = λ u. elim (cases_eq u v) as (λ _. cases_at after u ≡ cases_at before u) [ inl i ↦ subst (λ x. cases_at after x ≡ cases_at before x) (sym i) (s.nothing_cases w.1 ∙ p.cases v) | inr n ↦ c.others u n ∙ p.cases u ];
@@ -58,8 +55,8 @@ visit_outcome m before mid after places address site keeps keeps' v a b ek p c s
 })
 
 -- a vertex that is kept and to which no edge leads has what it had
-pub entry_stays : {R : Type 0} (m : Meaning R) (before after : List (Known R)) (inward : List (Vec Place Global)) (keeps : List Bool) (address : ℕ) (site : List ℕ) (v : ℕ) → IsVisit m before after (items_at inward v) address site (is_set keeps v) v → items_at inward 0 ≡ [] → is_set keeps 0 ≡ true → pred_at after 0 ≡ pred_at before 0
-entry_stays m before after inward keeps address site v w none kept = elim (cases_eq 0 v) as (λ _. pred_at after 0 ≡ pred_at before 0) [
+pub entry_stays : {R : Type 0} (m : Meaning R) (before after : List (Known R)) (inward : List (Vec Place Global)) (keeps : List Bool) (v : ℕ) → IsVisit m before after (items_at inward v) (is_set keeps v) v → items_at inward 0 ≡ [] → is_set keeps 0 ≡ true → pred_at after 0 ≡ pred_at before 0
+entry_stays m before after inward keeps v w none kept = elim (cases_eq 0 v) as (λ _. pred_at after 0 ≡ pred_at before 0) [
   | inl e ↦
       (let here : pred_at after 0 ≡ gathered m (cond (is_set keeps 0) (pred_at before 0) None) (incoming before (items_at inward 0)) = subst (λ x. pred_at after x ≡ gathered m (cond (is_set keeps x) (pred_at before x) None) (incoming before (items_at inward x))) (sym e) w.pred in
       here ∙ ap (λ b. gathered m (cond b (pred_at before 0) None) (incoming before (items_at inward 0))) kept ∙ ap (λ ps. gathered m (pred_at before 0) (incoming before ps)) none)

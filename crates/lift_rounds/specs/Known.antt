@@ -20,6 +20,7 @@ case_reading read c = record { address = c.address; pred = read c.pred }
 abbrev pub known_of : {P R : Type 0} → (P → R) → Made P → Known R
 known_of read m = record { pred = option_map read m.pred; cases = map (case_reading read) m.cases.items }
 
+-- what is known at the vertices, as it reads
 abbrev pub reading : {P R : Type 0} → (P → R) → List (Made P) → List (Known R)
 reading read made = map (known_of read) made
 
@@ -40,6 +41,7 @@ cases_at [] v = []
 cases_at (x ∷ xs) zero = x.cases
 cases_at (x ∷ xs) (suc v) = cases_at xs v
 
+-- the predicate of a case, where there is one
 abbrev pub pred_of : {R : Type 0} → Option (Case R) → Option R
 pred_of None = None
 pred_of (Some c) = Some c.pred

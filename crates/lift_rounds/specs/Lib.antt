@@ -3,3 +3,4 @@ pub mod Known
 pub mod Visit
 pub mod Round
 pub mod Settled
+pub mod Fixed

@@ -2,6 +2,7 @@
 use Rattle.std.specs.Prelude.{ℕ, Bool, List, Option}
 use Rattle.lift_rounds.specs.declared.data.Case.{Case}
 
+-- the cases that a step makes of a predicate, and how predicates are compared and weakened
 pub record Meaning (R : Type 0) : Type 0 where
   -- the cases at an address, where the vertices of the address have these predicates and the vertex this one; none where they
   -- aren't resolved though they have to be

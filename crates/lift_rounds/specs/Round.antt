@@ -21,6 +21,7 @@ pub record Frame (R : Type 0) : Type 0 where
   pub inward : List (Vec Place Global)
   pub keeps : List Bool
 
+-- what the edges of a graph fix
 abbrev pub frame_of : {R : Type 0} → Meaning R → Graph → Frame R
 frame_of m g = record { meaning = m; address = address_at g.keys.items; site = site_at g; inward = g.inward.items; keeps = g.keeps.items }
 
@@ -36,6 +37,7 @@ IsCased f made v = cases_from f.meaning (f.address v) (map (pred_at made) (f.sit
 abbrev pub IsMerged : {R : Type 0} → Frame R → List (Known R) → ℕ → Type 0
 IsMerged f made v = is_set f.keeps v ≡ false → pred_at made v ≡ gathered f.meaning None (incoming made (items_at f.inward v))
 
+-- each vertex has the cases of its predicate, and each that isn't kept the merge of its cases
 pub record AllFormed {R : Type 0} (f : Frame R) (made : List (Known R)) : Type 0 where
   pub cased : (v : ℕ) → v < length made → IsCased f made v
   pub merged : (v : ℕ) → v < length made → IsMerged f made v

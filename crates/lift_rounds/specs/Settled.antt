@@ -15,6 +15,7 @@ abbrev pub IsLedAt : {R : Type 0} → Meaning R → Graph → List (Known R) →
 IsLedAt m g made v =
     map (slice_get g.keys.items) (items_at g.targets.items v) ≡ map Some (keys_after (m.forks (address_at g.keys.items v)) (tag_at g.keys.items v) 0 (addresses (cases_at made v)))
 
+-- the edges of each vertex lead to the keys of its cases
 abbrev pub IsLed : {R : Type 0} → Meaning R → Graph → List (Known R) → Type 0
 IsLed m g made = (v : ℕ) → IsLedAt m g made v
 

@@ -1,8 +1,8 @@
 -- What a visit makes of a vertex.
-use Rattle.std.specs.Prelude.{◌≡◌, ◌≢◌, ℕ, Bool, true, List, Some, None, cond, map, IsSome}
+use Rattle.std.specs.Prelude.{◌≡◌, ◌≢◌, ℕ, Bool, true, List, None, cond, IsSome}
 use Rattle.lift_graph.specs.declared.graph.Place.{Place}
 use Rattle.lift_rounds.specs.Meaning.{Meaning}
-use Rattle.lift_rounds.specs.Known.{Known, pred_at, cases_at, incoming, gathered, addresses, cases_from}
+use Rattle.lift_rounds.specs.Known.{Known, pred_at, cases_at, incoming, gathered, addresses}
 use Rattle.lift_rounds.specs.declared.data.Change.{Change}
 use Rattle.lift_rounds.specs.declared.data.Change.TheVariants.{Nothing, Made as MadeChange, Head, Found}
 
@@ -17,16 +17,14 @@ pub record HasPred {R : Type 0} (m : Meaning R) (before after : List (Known R)) 
   pub others : (u : ℕ) → u ≢ v → pred_at after u ≡ pred_at before u
   pub cases : (u : ℕ) → cases_at after u ≡ cases_at before u
 
--- a vertex has the cases of its predicate
-pub record HasCases {R : Type 0} (m : Meaning R) (before after : List (Known R)) (address : ℕ) (site : List ℕ) (v : ℕ) : Type 0 where
-  pub cases : cases_from m address (map (pred_at after) site) (pred_at after v) ≡ Some (cases_at after v)
+-- the cases of one vertex alone may have changed
+pub record HasCases {R : Type 0} (before after : List (Known R)) (v : ℕ) : Type 0 where
   pub others : (u : ℕ) → u ≢ v → cases_at after u ≡ cases_at before u
   pub preds : (u : ℕ) → pred_at after u ≡ pred_at before u
 
 -- a vertex made anew, the others as they were
-pub record IsVisit {R : Type 0} (m : Meaning R) (before after : List (Known R)) (places : List Place) (address : ℕ) (site : List ℕ) (keeps : Bool) (v : ℕ) : Type 0 where
+pub record IsVisit {R : Type 0} (m : Meaning R) (before after : List (Known R)) (places : List Place) (keeps : Bool) (v : ℕ) : Type 0 where
   pub pred : pred_at after v ≡ gathered m (cond keeps (pred_at before v) None) (incoming before places)
-  pub cases : cases_from m address (map (pred_at after) site) (pred_at after v) ≡ Some (cases_at after v)
   pub other_preds : (u : ℕ) → u ≢ v → pred_at after u ≡ pred_at before u
   pub other_cases : (u : ℕ) → u ≢ v → cases_at after u ≡ cases_at before u
 

@@ -1,10 +1,12 @@
-ghost use Rattle.std.specs.Prelude.{◌≡◌, ◌≢◌, ◌<◌, ◌≤◌, ◌+◌, ◌-◌, ◌^◌, [], ℕ, Some, false, true, length, slice_get, IfOk, OnOk};
+ghost use Rattle.std.specs.Prelude.{◌≡◌, ◌≢◌, ◌<◌, ◌≤◌, ◌+◌, ◌-◌, ◌^◌, ◌⊎◌, [], ℕ, Err, Some, false, true, length, slice_get, IfOk, OnOk};
 ghost use Rattle.std.specs.List.{All};
-ghost use Rattle.lift_graph.specs.Graph.{IsGraph, IsSquare};
+ghost use Rattle.lift_graph.specs.Graph.{IsGraph, IsSquare, address_at, tag_at};
+ghost use Rattle.lift_graph.specs.Links.{KeepsEdges, keys_after};
 ghost use Rattle.lift_graph.specs.Rows.{is_set, items_at};
 ghost use Rattle.lift_graph.specs.Search.{unset};
 ghost use Rattle.lift_graph.specs.declared.graph.Key.{Key as KeyValue};
 ghost use Rattle.lift_rounds.specs.declared.data.Change.{Change as ChangeValue};
+ghost use Rattle.lift_rounds.specs.Fixed.{AreCases, IsFilled, IsFixedAt, IsUnresolvedAt};
 ghost use Rattle.lift_rounds.specs.Known.{IsHeld, addresses, cases_at, pred_at, reading};
 ghost use Rattle.lift_rounds.specs.Round.{IsReady, IsRound, NeverStuck, Quiet, frame_of};
 ghost use Rattle.lift_rounds.specs.Settled.{IsLed, IsLedAt};
@@ -18,7 +20,7 @@ use crate::visit::visit;
 use lift_graph::{Graph, Stop, link};
 use std::alloc::{AllocError, Global};
 
-/// Takes a vertex that is ready.
+/// Takes a vertex that is ready. `Lost` where its cases aren't resolved though they have to be.
 #[tactic(auto, using(lift_graph::proofs::MarkLemmas::unset_set))]
 fn take<S: Steps>(
     alloc: Global,
@@ -42,6 +44,8 @@ fn take<S: Steps>(
     ensures made { OnOk result (All (λ m. IsHeld (S.has steps.new) m) made.new.items) }
     ensures entry { OnOk result (items_at graph.now.inward.items 0 ≡ [] → is_set graph.now.keeps.items 0 ≡ true → pred_at (reading (S.read steps.new) made.new.items) 0 ≡ pred_at (reading (S.read steps.old) made.old.items) 0) }
     ensures others { OnOk result ((u : ℕ) → u ≢ vertex → cases_at (reading (S.read steps.new) made.new.items) u ≡ cases_at (reading (S.read steps.old) made.old.items) u) }
+    ensures filled { OnOk result ((cases_at (reading (S.read steps.new) made.new.items) vertex ≡ cases_at (reading (S.read steps.old) made.old.items) vertex) ⊎ AreCases (S.meaning steps.old) (address_at graph.now.keys.items vertex) (cases_at (reading (S.read steps.new) made.new.items) vertex)) }
+    ensures lost { result ≡ Err Stop.Lost → IsUnresolvedAt (S.meaning steps.old) (address_at graph.now.keys.items vertex) }
     ensures edges { IfOk result (λ c. c ≢ Change.Found → addresses (cases_at (reading (S.read steps.new) made.new.items) vertex) ≡ addresses (cases_at (reading (S.read steps.old) made.old.items) vertex)) }
     ensures step { IfOk result (λ c. (first : _) (change : ChangeValue) → worse change c ≢ Change.Found → Quiet (frame_of (S.meaning steps.old) graph.now) first (reading (S.read steps.old) made.old.items) taken.old.items change → Quiet (frame_of (S.meaning steps.old) graph.now) first (reading (S.read steps.new) made.new.items) taken.new.items (worse change c)) }
 {
@@ -109,7 +113,7 @@ fn fill<S: Steps>(
     Ok(())
 }
 
-/// Makes the edges of a vertex anew, and new vertices where there are none.
+/// Makes the edges of a vertex anew, and new vertices where there are none. `Lost` where it doesn't keep the edges that it has.
 fn link_cases<S: Steps>(
     alloc: Global,
     steps: &S,
@@ -132,6 +136,8 @@ fn link_cases<S: Steps>(
     ensures preds { OnOk result ((u : ℕ) → pred_at (reading (S.read steps.now) made.new.items) u ≡ pred_at (reading (S.read steps.now) made.old.items) u) }
     ensures led { OnOk result (IsLed (S.meaning steps.now) graph.new (reading (S.read steps.now) made.new.items)) }
     ensures keys { OnOk result ((v : ℕ) (k : KeyValue) → slice_get graph.old.keys.items v ≡ Some k → slice_get graph.new.keys.items v ≡ Some k) }
+    ensures filled { OnOk result (IsFilled (S.meaning steps.now) graph.old.keys.items (reading (S.read steps.now) made.old.items) → IsFilled (S.meaning steps.now) graph.new.keys.items (reading (S.read steps.now) made.new.items)) }
+    ensures lost { result ≡ Err Stop.Lost → ¬ KeepsEdges graph.old vertex (keys_after ((S.meaning steps.now).forks (address_at graph.old.keys.items vertex)) (tag_at graph.old.keys.items vertex) 0 (addresses (cases_at (reading (S.read steps.now) made.old.items) vertex))) }
     ensures entry { OnOk result (items_at graph.new.inward.items 0 ≡ items_at graph.old.inward.items 0) }
     ensures keeps { OnOk result (is_set graph.new.keeps.items 0 ≡ is_set graph.old.keeps.items 0) }
 {
@@ -144,7 +150,9 @@ fn link_cases<S: Steps>(
     Ok(())
 }
 
-/// One round: takes the entry vertex and then, again and again, the least vertex that can be taken, and makes it anew.
+/// One round: takes the entry vertex and then, again and again, the least vertex that can be taken, and makes it anew. `Lost`
+/// where cases aren't resolved though they have to be, or an edge was lost: neither comes where the addresses of cases don't
+/// depend on what is known.
 pub fn round<S: Steps>(
     alloc: Global,
     steps: &mut S,
@@ -165,6 +173,8 @@ pub fn round<S: Steps>(
     ensures led { OnOk result (IsLed (S.meaning steps.old) graph.new (reading (S.read steps.new) made.new.items)) }
     ensures keys { OnOk result ((v : ℕ) (k : KeyValue) → slice_get graph.old.keys.items v ≡ Some k → slice_get graph.new.keys.items v ≡ Some k) }
     ensures entry { OnOk result (pred_at (reading (S.read steps.new) made.new.items) 0 ≡ pred_at (reading (S.read steps.old) made.old.items) 0) }
+    ensures filled { OnOk result (IsFilled (S.meaning steps.old) graph.old.keys.items (reading (S.read steps.old) made.old.items) → IsFilled (S.meaning steps.old) graph.new.keys.items (reading (S.read steps.new) made.new.items)) }
+    ensures lost { result ≡ Err Stop.Lost → IsFilled (S.meaning steps.old) graph.old.keys.items (reading (S.read steps.old) made.old.items) → ¬ ((address : ℕ) → IsFixedAt (S.meaning steps.old) address) }
     ensures edges { IfOk result (λ c. c ≢ Change.Found → graph.new ≡ graph.old) }
     ensures round { IfOk result (λ c. c ≢ Change.Found → IsRound (frame_of (S.meaning steps.old) graph.old) (reading (S.read steps.old) made.old.items) (reading (S.read steps.new) made.new.items) c) }
 {

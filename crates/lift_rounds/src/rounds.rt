@@ -1,10 +1,11 @@
-ghost use Rattle.std.specs.Prelude.{◌≡◌, ◌≢◌, ◌<◌, ◌↔◌, [], ℕ, List, Some, true, false, length, slice_get, IfOk, OnOk};
+ghost use Rattle.std.specs.Prelude.{◌≡◌, ◌≢◌, ◌<◌, ◌↔◌, [], ℕ, List, Err, Some, true, false, length, slice_get, IfOk, OnOk};
 ghost use Rattle.std.specs.List.{All};
 ghost use Rattle.lift_graph.specs.Edges.{IsWoven};
 ghost use Rattle.lift_graph.specs.Graph.{IsGraph};
 ghost use Rattle.lift_graph.specs.Heads.{IsKept, IsRooted};
 ghost use Rattle.lift_graph.specs.Rows.{is_set, items_at};
 ghost use Rattle.lift_graph.specs.declared.graph.Key.{Key as KeyValue};
+ghost use Rattle.lift_rounds.specs.Fixed.{IsFilled, IsFixedAt};
 ghost use Rattle.lift_rounds.specs.Known.{IsHeld, pred_at, reading};
 ghost use Rattle.lift_rounds.specs.Round.{IsCalm, IsPlain, frame_of};
 ghost use Rattle.lift_rounds.specs.Settled.{IsLed, IsSettled};
@@ -29,7 +30,9 @@ pub enum Ended {
     Tired,
 }
 
-/// Rounds over the same edges, until one changes nothing or finds an edge.
+/// Rounds over the same edges, until one changes nothing or finds an edge, or 64 in a row changed something, but neither an edge
+/// nor a kept predicate: that comes only where an address has several vertices of which not all are kept. `Lost` where cases
+/// aren't resolved though they have to be, or an edge was lost: neither comes where the addresses of cases don't depend on what is known.
 #[tactic(auto, using(crate::proofs::CalmLemmas::round_calm, crate::proofs::CalmLemmas::left_head, crate::proofs::CalmLemmas::left_made))]
 pub fn settle<S: Steps>(
     alloc: Global,
@@ -50,6 +53,8 @@ pub fn settle<S: Steps>(
     ensures led { OnOk result (IsLed (S.meaning steps.old) graph.new (reading (S.read steps.new) made.new.items)) }
     ensures keys { OnOk result ((v : ℕ) (k : KeyValue) → slice_get graph.old.keys.items v ≡ Some k → slice_get graph.new.keys.items v ≡ Some k) }
     ensures entry { OnOk result (pred_at (reading (S.read steps.new) made.new.items) 0 ≡ pred_at (reading (S.read steps.old) made.old.items) 0) }
+    ensures filled { OnOk result (IsFilled (S.meaning steps.old) graph.old.keys.items (reading (S.read steps.old) made.old.items) → IsFilled (S.meaning steps.old) graph.new.keys.items (reading (S.read steps.new) made.new.items)) }
+    ensures lost { result ≡ Err Stop.Lost → IsFilled (S.meaning steps.old) graph.old.keys.items (reading (S.read steps.old) made.old.items) → ¬ ((address : ℕ) → IsFixedAt (S.meaning steps.old) address) }
     ensures edges { IfOk result (λ e. e ≢ Ended.Found → graph.new ≡ graph.old) }
     ensures calm { IfOk result (λ e. e ≡ Ended.Calm → IsCalm (frame_of (S.meaning steps.old) graph.old) (reading (S.read steps.new) made.new.items)) }
     ensures tired { IfOk result (λ e. e ≡ Ended.Tired → IsPlain (frame_of (S.meaning steps.old) graph.old) → ⊥) }
@@ -70,8 +75,8 @@ pub fn settle<S: Steps>(
     }
 }
 
-/// Rounds until one changes nothing; whether that came to pass. It doesn't where 64 rounds in a row change something, but
-/// neither an edge nor a kept predicate, which happens only where an address has several vertices of which not all are kept.
+/// Rounds until one changes nothing; whether that came to pass, as it does where no site forks. `Lost` where cases aren't resolved
+/// though they have to be, or an edge was lost: neither comes where the addresses of cases don't depend on what is known.
 #[tactic(auto, using(crate::proofs::LawLemmas::settled_some))]
 pub fn run_rounds<S: Steps>(
     alloc: Global,
@@ -92,7 +97,8 @@ pub fn run_rounds<S: Steps>(
     ensures entry { OnOk result (pred_at (reading (S.read steps.new) made.new.items) 0 ≡ pred_at (reading (S.read steps.old) made.old.items) 0) }
     ensures settled { IfOk result (λ calm. calm ≡ true → (order : List ℕ) × IsWoven graph.new order × IsSettled (S.meaning steps.old) graph.new order (reading (S.read steps.new) made.new.items)) }
     ensures kept { IfOk result (λ calm. calm ≡ true → (v : ℕ) → v < length graph.new.keys.items → (is_set graph.new.keeps.items v ≡ true) ↔ IsKept graph.new.keys.items graph.new.inward.items v) }
-    ensures tired { IfOk result (λ calm. calm ≡ false → IsPlain (frame_of (S.meaning steps.old) graph.new) → ⊥) }
+    ensures tired { IfOk result (λ calm. calm ≡ false → ¬ ((address : ℕ) → (S.meaning steps.old).forks address ≡ false)) }
+    ensures lost { result ≡ Err Stop.Lost → IsFilled (S.meaning steps.old) graph.old.keys.items (reading (S.read steps.old) made.old.items) → ¬ ((address : ℕ) → IsFixedAt (S.meaning steps.old) address) }
 {
     let mut found: u64 = 0;
     'edges: loop {

@@ -1,9 +1,10 @@
-ghost use Rattle.std.specs.Prelude.{◌≡◌, ◌≢◌, ◌<◌, ◌↔◌, ℕ, Option, Some, None, cond, length, map, true, IfOk, OnOk, IfSome, IsSome, IsTrue};
+ghost use Rattle.std.specs.Prelude.{◌≡◌, ◌≢◌, ◌<◌, ◌↔◌, ◌⊎◌, ℕ, Option, Some, None, Err, cond, length, map, true, IfOk, OnOk, IfSome, IsSome, IsTrue};
 ghost use Rattle.std.specs.List.{All};
 ghost use Rattle.std.specs.Option.{option_map};
 ghost use Rattle.lift_graph.specs.Graph.{IsSquare, address_at};
 ghost use Rattle.lift_graph.specs.Rows.{is_set, items_at};
 ghost use Rattle.lift_graph.specs.Sites.{site_at};
+ghost use Rattle.lift_rounds.specs.Fixed.{AreCases, IsUnresolvedAt};
 ghost use Rattle.lift_rounds.specs.Known.{IsHeld, addresses, cases_at, case_reading, cases_from, pred_at, reading};
 ghost use Rattle.lift_rounds.specs.Visit.{HasCases, HasPred, IsOutcome, IsVisit, worse};
 
@@ -87,7 +88,8 @@ fn put_pred<S: Steps>(
     known.pred = pred;
 }
 
-/// The cases at an address of a vertex with this predicate; `Lost` where they aren't resolved though they have to be.
+/// The cases at an address of a vertex with this predicate, none where nothing is known of it; `Lost` where they aren't resolved
+/// though they have to be.
 fn cases_of_pred<S: Steps>(
     alloc: Global,
     steps: &mut S,
@@ -95,18 +97,20 @@ fn cases_of_pred<S: Steps>(
     site: &[usize],
     made: &[Made<S::Pred>],
     pred: &Option<S::Pred>,
-) -> Result<Vec<Case<S::Pred>>, Stop>
+) -> Result<Option<Vec<Case<S::Pred>>>, Stop>
     requires made { All (λ m. IsHeld (S.has steps.old) m) made.now }
     requires pred { IfSome pred.now (λ p. S.has steps.old p) }
     ensures grows { S.grows steps.old steps.new }
-    ensures value { IfOk result (λ cs. cases_from (S.meaning steps.old) address (map (pred_at (reading (S.read steps.old) made.now)) site.now) (option_map (S.read steps.old) pred.now) ≡ Some (map (case_reading (S.read steps.new)) cs.items)) }
-    ensures inside { IfOk result (λ cs. All (λ c. S.has steps.new c.pred) cs.items) }
+    ensures value { IfOk result (λ r. IfSome r (λ cs. cases_from (S.meaning steps.old) address (map (pred_at (reading (S.read steps.old) made.now)) site.now) (option_map (S.read steps.old) pred.now) ≡ Some (map (case_reading (S.read steps.new)) cs.items))) }
+    ensures filled { IfOk result (λ r. IfSome r (λ cs. AreCases (S.meaning steps.old) address (map (case_reading (S.read steps.new)) cs.items))) }
+    ensures inside { IfOk result (λ r. IfSome r (λ cs. All (λ c. S.has steps.new c.pred) cs.items)) }
+    ensures lost { result ≡ Err Stop.Lost → IsUnresolvedAt (S.meaning steps.old) address }
 {
     match pred {
-        None => Ok(Vec::new(alloc)),
+        None => Ok(None),
         Some(known) => match steps.cases(alloc, address, made, site, known)? {
             None => Err(Stop::Lost),
-            Some(cases) => Ok(cases),
+            Some(cases) => Ok(Some(cases)),
         },
     }
 }
@@ -120,14 +124,16 @@ fn new_cases<S: Steps>(
     site: &[usize],
     made: &[Made<S::Pred>],
     vertex: usize,
-) -> Result<Vec<Case<S::Pred>>, Stop>
+) -> Result<Option<Vec<Case<S::Pred>>>, Stop>
     requires vertex { vertex < length made.now }
     requires made { All (λ m. IsHeld (S.has steps.old) m) made.now }
     ensures grows { S.grows steps.old steps.new }
-    ensures value { IfOk result (λ cs. cases_from (S.meaning steps.old) address (map (pred_at (reading (S.read steps.old) made.now)) site.now) (pred_at (reading (S.read steps.old) made.now) vertex) ≡ Some (map (case_reading (S.read steps.new)) cs.items)) }
-    ensures inside { IfOk result (λ cs. All (λ c. S.has steps.new c.pred) cs.items) }
+    ensures value { IfOk result (λ r. IfSome r (λ cs. cases_from (S.meaning steps.old) address (map (pred_at (reading (S.read steps.old) made.now)) site.now) (pred_at (reading (S.read steps.old) made.now) vertex) ≡ Some (map (case_reading (S.read steps.new)) cs.items))) }
+    ensures filled { IfOk result (λ r. IfSome r (λ cs. AreCases (S.meaning steps.old) address (map (case_reading (S.read steps.new)) cs.items))) }
+    ensures inside { IfOk result (λ r. IfSome r (λ cs. All (λ c. S.has steps.new c.pred) cs.items)) }
     ensures made { OnOk result (All (λ m. IsHeld (S.has steps.new) m) made.now) }
     ensures reads { OnOk result (reading (S.read steps.new) made.now ≡ reading (S.read steps.old) made.now) }
+    ensures lost { result ≡ Err Stop.Lost → IsUnresolvedAt (S.meaning steps.old) address }
 {
     let pred = &made[vertex].pred;
     let cases = cases_of_pred(alloc, steps, address, site, made, pred)?;
@@ -181,7 +187,7 @@ fn change_cases<S: Steps>(
     change
 }
 
-/// Makes the cases of a vertex anew, and says what changed.
+/// Makes the cases of a vertex anew, and says what changed. A vertex of which nothing is known has the cases that it had.
 fn visit_cases<S: Steps>(
     alloc: Global,
     steps: &mut S,
@@ -195,18 +201,26 @@ fn visit_cases<S: Steps>(
     ensures grows { S.grows steps.old steps.new }
     ensures made { OnOk result (All (λ m. IsHeld (S.has steps.new) m) made.new.items) }
     ensures rows { OnOk result (length made.new.items ≡ length made.old.items) }
-    ensures visited { OnOk result (HasCases (S.meaning steps.old) (reading (S.read steps.old) made.old.items) (reading (S.read steps.new) made.new.items) address site.now vertex) }
+    ensures visited { OnOk result (HasCases (reading (S.read steps.old) made.old.items) (reading (S.read steps.new) made.new.items) vertex) }
+    ensures cased { IfOk result (λ c. c ≢ Change.Found → cases_from (S.meaning steps.old) address (map (pred_at (reading (S.read steps.new) made.new.items)) site.now) (pred_at (reading (S.read steps.new) made.new.items) vertex) ≡ Some (cases_at (reading (S.read steps.new) made.new.items) vertex)) }
+    ensures filled { OnOk result ((cases_at (reading (S.read steps.new) made.new.items) vertex ≡ cases_at (reading (S.read steps.old) made.old.items) vertex) ⊎ AreCases (S.meaning steps.old) address (cases_at (reading (S.read steps.new) made.new.items) vertex)) }
     ensures nothing { IfOk result (λ c. c ≡ Change.Nothing → cases_at (reading (S.read steps.new) made.new.items) vertex ≡ cases_at (reading (S.read steps.old) made.old.items) vertex) }
     ensures edges { IfOk result (λ c. c ≢ Change.Found → addresses (cases_at (reading (S.read steps.new) made.new.items) vertex) ≡ addresses (cases_at (reading (S.read steps.old) made.old.items) vertex)) }
     ensures changed { IfOk result (λ c. c ≡ Change.Made → cases_at (reading (S.read steps.new) made.new.items) vertex ≢ cases_at (reading (S.read steps.old) made.old.items) vertex) }
     ensures head { IfOk result (λ c. c ≢ Change.Head) }
+    ensures lost { result ≡ Err Stop.Lost → IsUnresolvedAt (S.meaning steps.old) address }
 {
-    let cases = new_cases(alloc, steps, address, site, made.as_slice(), vertex)?;
-    let change = change_cases(steps, made, vertex, cases);
-    Ok(change)
+    let found = new_cases(alloc, steps, address, site, made.as_slice(), vertex)?;
+    match found {
+        None => Ok(Change::Found),
+        Some(cases) => {
+            let change = change_cases(steps, made, vertex, cases);
+            Ok(change)
+        }
+    }
 }
 
-/// Makes a vertex anew, and says what changed.
+/// Makes a vertex anew, and says what changed. `Lost` where its cases aren't resolved though they have to be.
 pub(crate) fn visit<S: Steps>(
     alloc: Global,
     steps: &mut S,
@@ -221,8 +235,11 @@ pub(crate) fn visit<S: Steps>(
     ensures grows { S.grows steps.old steps.new }
     ensures made { OnOk result (All (λ m. IsHeld (S.has steps.new) m) made.new.items) }
     ensures rows { OnOk result (length made.new.items ≡ length made.old.items) }
-    ensures visited { OnOk result (IsVisit (S.meaning steps.old) (reading (S.read steps.old) made.old.items) (reading (S.read steps.new) made.new.items) (items_at graph.now.inward.items vertex) (address_at graph.now.keys.items vertex) (site_at graph.now vertex) (is_set graph.now.keeps.items vertex) vertex) }
+    ensures visited { OnOk result (IsVisit (S.meaning steps.old) (reading (S.read steps.old) made.old.items) (reading (S.read steps.new) made.new.items) (items_at graph.now.inward.items vertex) (is_set graph.now.keeps.items vertex) vertex) }
     ensures outcome { IfOk result (λ c. IsOutcome c (is_set graph.now.keeps.items vertex) (reading (S.read steps.old) made.old.items) (reading (S.read steps.new) made.new.items) vertex) }
+    ensures cased { IfOk result (λ c. c ≢ Change.Found → cases_from (S.meaning steps.old) (address_at graph.now.keys.items vertex) (map (pred_at (reading (S.read steps.new) made.new.items)) (site_at graph.now vertex)) (pred_at (reading (S.read steps.new) made.new.items) vertex) ≡ Some (cases_at (reading (S.read steps.new) made.new.items) vertex)) }
+    ensures filled { OnOk result ((cases_at (reading (S.read steps.new) made.new.items) vertex ≡ cases_at (reading (S.read steps.old) made.old.items) vertex) ⊎ AreCases (S.meaning steps.old) (address_at graph.now.keys.items vertex) (cases_at (reading (S.read steps.new) made.new.items) vertex)) }
+    ensures lost { result ≡ Err Stop.Lost → IsUnresolvedAt (S.meaning steps.old) (address_at graph.now.keys.items vertex) }
 {
     let places = graph.inward[vertex].as_slice();
     let keeps = graph.keeps[vertex];

@@ -4,6 +4,7 @@ use Rattle.lift_graph.specs.Graph.{IsGraph}
 use Rattle.lift_graph.specs.Rows.{is_set, items_at}
 use Rattle.lift_graph.specs.Search.{unset}
 use Rattle.lift_graph.specs.declared.graph.Key.{Key}
+use Rattle.lift_rounds.specs.Fixed.{IsFilled}
 use Rattle.lift_rounds.specs.Known.{IsHeld, pred_at, reading}
 use Rattle.lift_rounds.specs.Round.{Quiet, frame_of}
 use Rattle.lift_rounds.specs.Settled.{IsLed}
@@ -20,6 +21,7 @@ invariant-loop-vertex g l =
       grows : t.grows l.fn.steps l.steps;
       made : All (λ m. IsHeld (t.has l.steps) m) l.made.items;
       led : IsLed (t.meaning l.fn.steps) l.graph (reading (t.read l.steps) l.made.items);
+      filled : IsFilled (t.meaning l.fn.steps) l.fn.graph.keys.items (reading (t.read l.fn.steps) l.fn.made.items) → IsFilled (t.meaning l.fn.steps) l.graph.keys.items (reading (t.read l.steps) l.made.items);
       alone : items_at l.graph.inward.items 0 ≡ [];
       kept : is_set l.graph.keeps.items 0 ≡ true;
       keys : (v : ℕ) (k : Key) → slice_get l.fn.graph.keys.items v ≡ Some k → slice_get l.graph.keys.items v ≡ Some k;

@@ -1,6 +1,4 @@
 use Rattle.std.proofs.Common.{sym, ◌∙◌, arith}
-use Rattle.lift_graph.specs.Graph.{address_at}
-use Rattle.lift_graph.specs.Sites.{site_at}
 use Rattle.lift_rounds.specs.Known.{reading}
 use Rattle.lift_rounds.proofs.ReadingLemmas.{length_reading}
 use Rattle.lift_rounds.proofs.RoundLemmas.{worse_found}
@@ -25,6 +23,7 @@ returns-clause-step g c = λ first change small quiet.
       fresh = c.requires.fresh;
       ready = c.requires.ready;
       visit = c.in_ok-change.ensures.visited;
+      cased = c.in_ok-change.ensures.cased (worse_found change c.in_ok-change.change small).1;
       outcome = c.in_ok-change.ensures.outcome;
       small = (worse_found change c.in_ok-change.change small).1;
     })
@@ -33,4 +32,4 @@ pub returns-clause-entry : goal.returns-clause-entry
 returns-clause-entry g c = λ none kept.
     let t = g.S.Steps in
     let s = c.args.graph.now in
-    entry_stays (t.meaning c.args.steps.now) (reading (t.read c.args.steps.now) c.args.made.now.items) (reading (t.read c.visit.new.steps) c.visit.new.made.items) s.inward.items s.keeps.items (address_at s.keys.items c.args.vertex) (site_at s c.args.vertex) c.args.vertex c.in_ok-change.ensures.visited none kept
+    entry_stays (t.meaning c.args.steps.now) (reading (t.read c.args.steps.now) c.args.made.now.items) (reading (t.read c.visit.new.steps) c.visit.new.made.items) s.inward.items s.keeps.items c.args.vertex c.in_ok-change.ensures.visited none kept

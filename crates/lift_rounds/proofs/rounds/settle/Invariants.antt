@@ -1,5 +1,6 @@
 use Rattle.std.proofs.Common.{◌≡◌, ◌<◌, length}
 use Rattle.std.specs.List.{All}
+use Rattle.lift_rounds.specs.Fixed.{IsFilled}
 use Rattle.lift_rounds.specs.Known.{IsHeld, pred_at, reading}
 use Rattle.lift_rounds.specs.Round.{AllFormed, IsPlain, frame_of}
 use Rattle.lift_rounds.specs.Settled.{IsLed}
@@ -16,6 +17,7 @@ invariant-same g l =
       grows : t.grows l.fn.steps l.steps;
       made : All (λ m. IsHeld (t.has l.steps) m) l.made.items;
       led : IsLed (t.meaning l.fn.steps) l.fn.graph (reading (t.read l.steps) l.made.items);
+      filled : IsFilled (t.meaning l.fn.steps) l.fn.graph.keys.items (reading (t.read l.fn.steps) l.fn.made.items) → IsFilled (t.meaning l.fn.steps) l.fn.graph.keys.items (reading (t.read l.steps) l.made.items);
       entry : pred_at (reading (t.read l.steps) l.made.items) 0 ≡ pred_at (reading (t.read l.fn.steps) l.fn.made.items) 0;
       quiet : l.quiet < 64;
       formed : 0 < l.quiet → IsPlain f → AllFormed f (reading (t.read l.steps) l.made.items);
