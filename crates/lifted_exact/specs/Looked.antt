@@ -11,6 +11,7 @@ use Rattle.graph_data.specs.WellFormed.{IsEdge, IsKind, IsNumber, IsPred}
 abbrev pub IsRegionTerm : Region → Type 0
 IsRegionTerm r = IsTerm r.at
 
+-- the addresses of both regions of a pair are terms
 abbrev pub ArePairTerms : Region × Region → Type 0
 ArePairTerms p = IsTerm p.0.at × IsTerm p.1.at
 

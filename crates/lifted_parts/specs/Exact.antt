@@ -30,6 +30,7 @@ abbrev pub merged_onto : Predicate → List Predicate → Predicate
 merged_onto p [] = p
 merged_onto p (c ∷ cs) = merged_onto (weaken p c) cs
 
+-- the merge of predicates; none of none
 abbrev pub merge_of : List Predicate → Option Predicate
 merge_of [] = None
 merge_of (c ∷ cs) = Some (merged_onto c cs)

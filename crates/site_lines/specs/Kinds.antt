@@ -81,5 +81,6 @@ abbrev pub is_shut_here : Subject → ℕ → Option Instr → Bool
 is_shut_here s address None = false
 is_shut_here s address (Some i) = is_jump (class_of i.op) && is_shut s address i
 
+-- whether a shut jump stands at an address
 abbrev pub is_shut_at : Subject → ℕ → Bool
 is_shut_at s address = not (is_listed address s.externs) && is_shut_here s address (instr_at s.image address)

@@ -8,6 +8,7 @@ use Rattle.x86_instr.specs.declared.instr.Operand.TheVariants as operand
 use Rattle.x86_instr.specs.declared.instr.Instr.{Instr}
 use Rattle.site_lines.specs.declared.subject.Program.{Program}
 
+-- what is lifted
 pub record Subject : Type 0 where
   pub image : Image
   pub externs : List ℕ
@@ -21,10 +22,11 @@ subject_of p = record { image = p.image.now; externs = p.externs.now; opened = p
 abbrev pub is_listed : ℕ → List ℕ → Bool
 is_listed a addresses = list_any (λ b. b == a) addresses
 
--- the bytes below and above the entry's stack pointer that a lifted function has as its frame
+-- the bytes below the entry's stack pointer that a lifted function has as its frame
 abbrev pub frame_below : ℕ
 frame_below = 65536
 
+-- the bytes above it
 abbrev pub frame_above : ℕ
 frame_above = 4096
 
