@@ -12,3 +12,7 @@ rows_of rows = map (λ row. row.items) rows
 pub record IsCopy (old new : Graph) : Type 0 where
   pub keys : new.keys.items ≡ old.keys.items
   pub targets : rows_of new.targets.items ≡ rows_of old.targets.items
+  pub inward : rows_of new.inward.items ≡ rows_of old.inward.items
+  pub keeps : new.keeps.items ≡ old.keeps.items
+  pub index : new.index.entries ≡ old.index.entries
+  pub tags : new.tags ≡ old.tags

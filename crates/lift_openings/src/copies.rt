@@ -5,7 +5,7 @@ ghost use Rattle.std.specs.Option.{option_map};
 ghost use Rattle.lift_graph.specs.Graph.{IsGraph};
 ghost use Rattle.lift_rounds.specs.Known.{IsHeld, case_reading, known_of, reading};
 ghost use Rattle.lift_openings.specs.Copies.{IsCopy, rows_of};
-ghost use Rattle.lift_openings.specs.Lifted.{IsBegun, IsFound};
+ghost use Rattle.lift_openings.specs.Lifted.{IsBegun, IsLifted};
 
 use crate::lift::Lift;
 use lift_graph::Place;
@@ -118,14 +118,14 @@ fn copy_made<S: Steps>(
 }
 
 /// What was found and is known, copied.
-#[tactic(auto, using(crate::proofs::FoundLemmas::found_copied, crate::proofs::FoundLemmas::begun_copied))]
+#[tactic(auto, using(crate::proofs::FoundLemmas::lifted_copied, crate::proofs::FoundLemmas::begun_copied))]
 pub(crate) fn copy_lift<S: Steps>(
     alloc: Global,
     steps: &S,
     lift: &Lift<S::Pred>,
 ) -> Result<Lift<S::Pred>, NoMemory>
-    requires { IsFound (S.meaning steps.now) (S.has steps.now) (S.read steps.now) lift.now }
-    ensures found { IfOk result (λ l. IsFound (S.meaning steps.now) (S.has steps.now) (S.read steps.now) l) }
+    requires { IsLifted (S.meaning steps.now) (S.has steps.now) (S.read steps.now) lift.now }
+    ensures lifted { IfOk result (λ l. IsLifted (S.meaning steps.now) (S.has steps.now) (S.read steps.now) l) }
     ensures begun { IfOk result (λ l. (address : ℕ) (start : S.Plain) → IsBegun (S.read steps.now) lift.now address start → IsBegun (S.read steps.now) l address start) }
 {
     let graph = copy_graph(alloc, &lift.graph)?;

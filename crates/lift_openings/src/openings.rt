@@ -1,6 +1,8 @@
 // Rounds, and jumps that are opened between them.
-ghost use Rattle.std.specs.Prelude.{◌≡◌, ℕ, false, IfOk, OnOk, Some, [], length};
-ghost use Rattle.lift_openings.specs.Lifted.{IsBegun, IsFound, IsLifted};
+ghost use Rattle.std.specs.Prelude.{◌≡◌, ◌+◌, ◌<◌, ◌^◌, ◌↔◌, ℕ, true, false, IfOk, OnOk, IsTrue, [], length};
+ghost use Rattle.lift_rounds.specs.Fixed.{IsFilled, IsFixedAt};
+ghost use Rattle.lift_rounds.specs.Known.{reading};
+ghost use Rattle.lift_openings.specs.Lifted.{IsBegun, IsFound, IsLifted, IsOneMore, IsResolved};
 
 use crate::copies::copy_lift;
 use crate::jumps::Jumps;
@@ -10,18 +12,18 @@ use lift_rounds::{Graph, first_known, run_rounds};
 use no_memory::NoMemory;
 use std::alloc::{AllocError, Global};
 
-/// Rounds until one changes nothing. `Lost` where an open jump isn't resolved or loses an edge. Rounds that don't come to rest
-/// are answered as want of memory; they are none where no site forks.
+/// Rounds until one changes nothing: where no site forks they come to rest. `Lost` where an open jump isn't resolved or loses an
+/// edge, `NoMemory` where memory runs out.
 fn settle<S: Jumps>(alloc: Global, steps: &mut S, lift: &mut Lift<S::Pred>) -> Result<(), Stop>
     requires found { IsFound (S.meaning steps.old) (S.has steps.old) (S.read steps.old) lift.old }
+    requires plain { (address : ℕ) → (S.meaning steps.old).forks address ≡ false }
     ensures grows { S.grows steps.old steps.new }
     ensures lifted { OnOk result (IsLifted (S.meaning steps.new) (S.has steps.new) (S.read steps.new) lift.new) }
     ensures begun { OnOk result ((address : ℕ) (start : S.Plain) → IsBegun (S.read steps.old) lift.old address start → IsBegun (S.read steps.new) lift.new address start) }
+    ensures lost { result ≡ Err Stop.Lost → IsFilled (S.meaning steps.old) lift.old.graph.keys.items (reading (S.read steps.old) lift.old.made.items) → ¬ ((address : ℕ) → IsFixedAt (S.meaning steps.old) address) }
 {
     let calm = run_rounds(alloc, steps, &mut lift.graph, &mut lift.made)?;
-    if !calm {
-        return Err(Stop::NoMemory);
-    }
+    prove!(calm);
     Ok(())
 }
 
@@ -38,7 +40,7 @@ fn shut_jumps<S: Jumps>(alloc: Global, steps: &S, graph: &Graph) -> Result<Vec<u
     Ok(addresses)
 }
 
-/// Whether each vertex of a shut jump tells where it goes.
+/// Whether each vertex of a shut jump of which something is known tells where the jump goes.
 fn resolves<S: Jumps>(
     alloc: Global,
     steps: &mut S,
@@ -46,29 +48,12 @@ fn resolves<S: Jumps>(
     address: u64,
 ) -> Result<bool, NoMemory>
     requires { IsFound (S.meaning steps.old) (S.has steps.old) (S.read steps.old) lift.now }
-    ensures { S.grows steps.old steps.new }
+    ensures grows { S.grows steps.old steps.new }
+    ensures resolved { IfOk result (λ r. IsTrue r ↔ IsResolved (S.tells steps.old address) (S.read steps.old) lift.now address) }
 {
     let site = lift.graph.site(alloc, address)?;
     let resolved = steps.resolves(alloc, address, lift.made.as_slice(), site.as_slice())?;
     Ok(resolved)
-}
-
-/// Rounds over what is put back: as before the last opening, which is closed.
-fn put_back<S: Jumps>(
-    alloc: Global,
-    steps: &mut S,
-    lift: &mut Lift<S::Pred>,
-) -> Result<(), NoMemory>
-    requires found { IsFound (S.meaning steps.old) (S.has steps.old) (S.read steps.old) lift.old }
-    ensures continues { S.continues steps.old steps.new }
-    ensures lifted { OnOk result (IsLifted (S.meaning steps.new) (S.has steps.new) (S.read steps.new) lift.new) }
-    ensures begun { OnOk result ((address : ℕ) (start : S.Plain) → IsBegun (S.read steps.old) lift.old address start → IsBegun (S.read steps.new) lift.new address start) }
-{
-    steps.close();
-    match settle(alloc, steps, lift) {
-        Ok(()) => Ok(()),
-        Err(_) => Err(NoMemory),
-    }
 }
 
 /// Opens a shut jump; whether the opening stands. Where it doesn't, all is as before.
@@ -79,9 +64,12 @@ fn try_open<S: Jumps>(
     address: u64,
 ) -> Result<bool, NoMemory>
     requires lifted { IsLifted (S.meaning steps.old) (S.has steps.old) (S.read steps.old) lift.old }
+    requires plain { (address : ℕ) → (S.meaning steps.old).forks address ≡ false }
     ensures continues { S.continues steps.old steps.new }
     ensures lifted { OnOk result (IsLifted (S.meaning steps.new) (S.has steps.new) (S.read steps.new) lift.new) }
     ensures begun { OnOk result ((address : ℕ) (start : S.Plain) → IsBegun (S.read steps.old) lift.old address start → IsBegun (S.read steps.new) lift.new address start) }
+    ensures opened { IfOk result (λ r. r ≡ true → IsOneMore (S.opened steps.old) (S.opened steps.new)) }
+    ensures shut { IfOk result (λ r. r ≡ false → S.opened steps.new ≡ S.opened steps.old) }
 {
     let before = copy_lift(alloc, steps, lift)?;
     steps.open(address)?;
@@ -90,7 +78,7 @@ fn try_open<S: Jumps>(
         Err(Stop::NoMemory) => Err(NoMemory),
         Err(Stop::Lost) => {
             *lift = before;
-            put_back(alloc, steps, lift)?;
+            steps.close();
             Ok(false)
         }
     }
@@ -104,9 +92,13 @@ fn try_resolved<S: Jumps>(
     address: u64,
 ) -> Result<bool, NoMemory>
     requires lifted { IsLifted (S.meaning steps.old) (S.has steps.old) (S.read steps.old) lift.old }
+    requires plain { (address : ℕ) → (S.meaning steps.old).forks address ≡ false }
     ensures continues { S.continues steps.old steps.new }
     ensures lifted { OnOk result (IsLifted (S.meaning steps.new) (S.has steps.new) (S.read steps.new) lift.new) }
     ensures begun { OnOk result ((address : ℕ) (start : S.Plain) → IsBegun (S.read steps.old) lift.old address start → IsBegun (S.read steps.new) lift.new address start) }
+    ensures resolved { IfOk result (λ r. r ≡ true → IsResolved (S.tells steps.old address) (S.read steps.old) lift.old address) }
+    ensures opened { IfOk result (λ r. r ≡ true → IsOneMore (S.opened steps.old) (S.opened steps.new)) }
+    ensures shut { IfOk result (λ r. r ≡ false → S.opened steps.new ≡ S.opened steps.old) }
 {
     if !resolves(alloc, steps, lift, address)? {
         return Ok(false);
@@ -122,9 +114,12 @@ fn open_first<S: Jumps>(
     addresses: &[u64],
 ) -> Result<bool, NoMemory>
     requires lifted { IsLifted (S.meaning steps.old) (S.has steps.old) (S.read steps.old) lift.old }
+    requires plain { (address : ℕ) → (S.meaning steps.old).forks address ≡ false }
     ensures continues { S.continues steps.old steps.new }
     ensures lifted { OnOk result (IsLifted (S.meaning steps.new) (S.has steps.new) (S.read steps.new) lift.new) }
     ensures begun { OnOk result ((address : ℕ) (start : S.Plain) → IsBegun (S.read steps.old) lift.old address start → IsBegun (S.read steps.new) lift.new address start) }
+    ensures opened { IfOk result (λ r. r ≡ true → IsOneMore (S.opened steps.old) (S.opened steps.new)) }
+    ensures shut { IfOk result (λ r. r ≡ false → S.opened steps.new ≡ S.opened steps.old) }
 {
     for address in addresses {
         if try_resolved(alloc, steps, lift, *address)? {
@@ -141,18 +136,17 @@ fn open_jumps<S: Jumps>(
     lift: &mut Lift<S::Pred>,
 ) -> Result<(), NoMemory>
     requires lifted { IsLifted (S.meaning steps.old) (S.has steps.old) (S.read steps.old) lift.old }
+    requires plain { (address : ℕ) → (S.meaning steps.old).forks address ≡ false }
     ensures continues { S.continues steps.old steps.new }
     ensures lifted { OnOk result (IsLifted (S.meaning steps.new) (S.has steps.new) (S.read steps.new) lift.new) }
     ensures begun { OnOk result ((address : ℕ) (start : S.Plain) → IsBegun (S.read steps.old) lift.old address start → IsBegun (S.read steps.new) lift.new address start) }
 {
-    // Each round of this loop opens a jump, which takes memory.
-    for _ in 0..u64::MAX {
+    'jumps: loop {
         let addresses = shut_jumps(alloc, steps, &lift.graph)?;
         if !open_first(alloc, steps, lift, addresses.as_slice())? {
             return Ok(());
         }
     }
-    Err(NoMemory)
 }
 
 /// An entry vertex, of which this is known.
@@ -165,6 +159,7 @@ fn begin<S: Jumps>(
     requires { S.has steps.now start }
     ensures found { IfOk result (λ l. IsFound (S.meaning steps.now) (S.has steps.now) (S.read steps.now) l) }
     ensures begun { IfOk result (λ l. IsBegun (S.read steps.now) l entry (S.read steps.now start)) }
+    ensures filled { IfOk result (λ l. IsFilled (S.meaning steps.now) l.graph.keys.items (reading (S.read steps.now) l.made.items)) }
 {
     let graph = Graph::new(alloc, entry)?;
     let made = first_known(alloc, steps, &graph, start)?;
@@ -180,6 +175,8 @@ pub fn lift_from<S: Jumps>(
     start: S::Pred,
 ) -> Result<Lift<S::Pred>, NoMemory>
     requires start { S.has steps.old start }
+    requires shut { S.opened steps.old ≡ [] }
+    requires plain { (address : ℕ) → (S.meaning steps.old).forks address ≡ false }
     ensures continues { S.continues steps.old steps.new }
     ensures lifted { IfOk result (λ l. IsLifted (S.meaning steps.new) (S.has steps.new) (S.read steps.new) l) }
     ensures begun { IfOk result (λ l. IsBegun (S.read steps.new) l entry (S.read steps.old start)) }
@@ -187,7 +184,9 @@ pub fn lift_from<S: Jumps>(
     let mut lift = begin(alloc, steps, entry, start)?;
     match settle(alloc, steps, &mut lift) {
         Ok(()) => {}
-        Err(_) => return Err(NoMemory),
+        Err(Stop::NoMemory) => return Err(NoMemory),
+        // No jump is open yet.
+        Err(Stop::Lost) => unreachable!(),
     }
     open_jumps(alloc, steps, &mut lift)?;
     Ok(lift)
