@@ -1,5 +1,5 @@
 // A function from its entry.
-ghost use Rattle.std.specs.Prelude.{◌≡◌, ◌↔◌, false, IfOk, Err, None};
+ghost use Rattle.std.specs.Prelude.{◌≡◌, ◌↔◌, [], false, IfOk, Err, None};
 ghost use Rattle.elf_image.specs.Image.{is_code_at};
 ghost use Rattle.term_bank.specs.Terms.{Grows};
 ghost use Rattle.predicates.specs.Entry.{entry_predicate};
@@ -45,6 +45,7 @@ fn lift_walk<B: Bank>(
 ) -> Result<Lift<BankPred>, NoMemory>
     requires inside { IsNumbered (B.terms walk.old.bank.now) start }
     requires start { predicate_at (B.terms walk.old.bank.now) start ≡ entry_predicate }
+    requires shut { walk.old.opened.now.items ≡ [] }
     ensures continues { GoesOn B.terms walk.old walk.new }
     ensures same_reference { walk.new.bank.ghost_name ≡ walk.old.bank.ghost_name }
     ensures lifted { IfOk result (λ l. IsLifted (meaning_of (subject_at walk.new)) (IsNumbered (B.terms walk.new.bank.now)) (predicate_at (B.terms walk.new.bank.now)) l) }
@@ -80,6 +81,7 @@ fn walk_from<B: Bank>(
 ) -> Result<Built, NoMemory>
     requires inside { IsNumbered (B.terms walk.old.bank.now) start }
     requires start { predicate_at (B.terms walk.old.bank.now) start ≡ entry_predicate }
+    requires shut { walk.old.opened.now.items ≡ [] }
     ensures grows { Grows (B.terms walk.old.bank.now) (B.terms walk.new.bank.now) }
     ensures same_reference { walk.new.bank.ghost_name ≡ walk.old.bank.ghost_name }
     ensures ok { IfOk result (λ b. IsBuiltWell walk.old.image.now walk.old.externs.now entry b) }

@@ -9,7 +9,7 @@ use Rattle.predicates.specs.Predicate.{Predicate}
 use Rattle.bank_values.specs.declared.pred.BankPred.{BankPred}
 use Rattle.lift_rounds.specs.declared.data.Made.{Made}
 use Rattle.lift_rounds.proofs.ReadingLemmas.{held_grows}
-use Rattle.lift_rounds.specs.Known.{IsHeld, Known, pred_at, reading}
+use Rattle.lift_rounds.specs.Known.{IsHeld, pred_at, reading}
 use Rattle.image_steps.specs.Meant.{known_among}
 use Rattle.image_steps.specs.Walks.{IsNumbered}
 use Rattle.image_steps.specs.WalkLaws.{walk_has}
@@ -30,7 +30,7 @@ known_next [] x = refl
 known_next (None ∷ xs) x = known_next xs x
 known_next (Some p ∷ xs) x = ap (λ ps. p ∷ ps) (known_next xs x)
 
-take_more : {A : Type 0} (xs : List A) (i : ℕ) (d : A) → i < length xs → take (i + 1) xs ≡ take i xs ++ get_or xs i d ∷ []
+pub take_more : {A : Type 0} (xs : List A) (i : ℕ) (d : A) → i < length xs → take (i + 1) xs ≡ take i xs ++ get_or xs i d ∷ []
 take_more xs i d inside = let e : i + 1 ≡ suc i = omega arith in ap (λ k. take k xs) e ∙ take-suc xs i d inside
 
 -- one more vertex was read

@@ -1,3 +1,4 @@
 pub mod FormedLemmas
 pub mod KnownLemmas
+pub mod TellLemmas
 pub mod CaseLemmas

@@ -1,16 +1,16 @@
 -- What is weakened is as it was, or has fewer conjuncts.
-use Rattle.std.proofs.Common.{◌≡◌, ◌<◌, ◌≤◌, ◌+◌, ◌⊎◌, ℕ, Bool, true, false, cond, List, [], ◌∷◌, length, filter, refl, sym, ap, ◌∙◌, inl, inr, arith}
+use Rattle.std.proofs.Common.{◌≡◌, ◌<◌, ◌≤◌, ◌⊎◌, ℕ, Bool, true, false, cond, List, [], ◌∷◌, length, filter, refl, ap, ◌∙◌, inl, inr, arith}
 use Rattle.std.specs.Prelude.{if◌then◌else◌, Option, Some, None, is_some}
 use Rattle.std.specs.Int.{from_bool}
 use Rattle.sym_terms.specs.Plain.{PlainSum}
-use Rattle.mem_forest.specs.Plain.{PlainForest, none, cell, PlainNode, count}
+use Rattle.mem_forest.specs.Plain.{PlainForest, none, cell, count}
 use Rattle.mem_forest.specs.Holders.{holder, weakened}
 use Rattle.predicates.specs.declared.bound.FlagFact.{FlagFact}
 use Rattle.predicates.specs.declared.bound.Bound.{Bound}
 use Rattle.predicates.specs.Holding.{holds_term, holds_flags, holds_bound}
 use Rattle.predicates.specs.Registers.{known_among}
 use Rattle.predicates.specs.Predicate.{Predicate}
-use Rattle.predicates.specs.Weaken.{weaker_registers, weaker_flags, weaker_bounds, weaken}
+use Rattle.predicates.specs.Weaken.{weaker_registers, weaken}
 use Rattle.predicates.specs.Weight.{weight_of}
 use Rattle.entailment_laws.proofs.LawLemmas.{same}
 

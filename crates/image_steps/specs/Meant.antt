@@ -1,5 +1,5 @@
 -- What a step of an executable means to rounds.
-use Rattle.std.specs.Prelude.{ℕ, Bool, false, List, [], ◌∷◌, map, Option, Some, None}
+use Rattle.std.specs.Prelude.{ℕ, false, List, [], ◌∷◌, map, Option, Some, None}
 use Rattle.std.specs.Option.{option_map}
 use Rattle.predicates.specs.Predicate.{Predicate}
 use Rattle.step_rules.specs.Cases as step

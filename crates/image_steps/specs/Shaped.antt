@@ -1,6 +1,6 @@
 -- Entailment and weakening of predicates, defined of all plain data so that their laws have no premise: of predicates in form they
 -- are what they are elsewhere.
-use Rattle.std.specs.Prelude.{ℕ, ◌+◌, ◌==◌, Bool, ◌&&◌, ◌||◌, not, nat_le, if◌then◌else◌, is_none, List, [], ◌∷◌, length, replicate, Option, None}
+use Rattle.std.specs.Prelude.{ℕ, ◌+◌, ◌==◌, Bool, ◌&&◌, ◌||◌, not, nat_le, if◌then◌else◌, is_none, [], length, replicate, None}
 use Rattle.mem_forest.specs.Plain.{PlainForest, none, count}
 use Rattle.mem_forest.specs.Shape.{shaped, all_alone}
 use Rattle.predicates.specs.Limits.{registers}

@@ -38,6 +38,6 @@ walk_has old new p g h = record {
   formed = subst IsPred (sym (walk_reads old new p g h)) h.formed;
 }
 
--- the same is lifted, so the step means the same
-pub walk_means : {B : Type 0} (terms : B → List PlainSum) (a b : Walk B) → GoesOnAlike terms a b → meaning_of (subject_at b) ≡ meaning_of (subject_at a)
-walk_means terms a b h = λ i. meaning_of (record { image = h.goes_on.image i; externs = h.goes_on.externs i; opened = h.opened i })
+-- the same is lifted, with the same open jumps, so the step means the same
+pub walk_alike : {B : Type 0} (terms : B → List PlainSum) (a b : Walk B) → GoesOn terms a b → b.opened.now.items ≡ a.opened.now.items → meaning_of (subject_at b) ≡ meaning_of (subject_at a)
+walk_alike terms a b h e = λ i. meaning_of (record { image = h.image i; externs = h.externs i; opened = e i })

@@ -1,5 +1,5 @@
 -- What a walk through an executable has, and how it goes on.
-use Rattle.std.specs.Prelude.{◌≡◌, ℕ, List, length}
+use Rattle.std.specs.Prelude.{◌≡◌, List, length}
 use Rattle.sym_terms.specs.Plain.{PlainSum}
 use Rattle.term_bank.specs.Terms.{Grows}
 use Rattle.bank_values.specs.declared.pred.BankPred.{BankPred}

@@ -1,5 +1,5 @@
 // A walk through an executable: what it means to rounds.
-ghost use Rattle.std.specs.Prelude.{◌≡◌, length, map, refl, IfOk, IfSome};
+ghost use Rattle.std.specs.Prelude.{◌≡◌, ◌↔◌, true, length, map, refl, IfOk, IfSome, IsTrue};
 ghost use Rattle.std.specs.List.{All};
 ghost use Rattle.std.specs.Option.{option_copied, option_map};
 ghost use Rattle.term_bank.specs.Terms.{Grows};
@@ -13,8 +13,10 @@ ghost use Rattle.site_lines.specs.Lines.{cases_here, lines_at};
 ghost use Rattle.site_lines.specs.Kinds.{is_shut_at};
 ghost use Rattle.site_lines.specs.Subject.{subject_of};
 ghost use Rattle.image_steps.specs.Meant.{case_of, cases_at, known_among, meaning_of};
+ghost use Rattle.image_steps.specs.Tells.{gives_cases, tells, AllPass};
 ghost use Rattle.image_steps.specs.Walks.{GoesOn, GoesOnAlike, IsNumbered, subject_at};
-ghost use Rattle.image_steps.specs.WalkLaws.{walk_further, walk_has, walk_means, walk_over, walk_reads, walk_unmoved};
+ghost use Rattle.image_steps.specs.WalkLaws.{walk_alike, walk_further, walk_has, walk_over, walk_reads, walk_unmoved};
+ghost use Rattle.image_steps.specs.FixedLaws.{fixed_at};
 ghost use Rattle.image_steps.specs.Laws.{entails_follows, entails_itself, entails_kept, entails_through, weakened_falls};
 
 use crate::reading::preds_at;
@@ -249,7 +251,7 @@ impl<'a, B: Bank> Steps for Walk<'a, B> {
 
     ghost reads = { λ a b p g h. walk_reads (B.terms a.bank.now) (B.terms b.bank.now) p g.goes_on.more h };
 
-    ghost means = { λ a b g. walk_means B.terms a b g };
+    ghost means = { λ a b g. walk_alike B.terms a b g.goes_on g.opened };
 
     ghost itself = { λ a p. entails_itself p };
 
@@ -262,55 +264,117 @@ impl<'a, B: Bank> Steps for Walk<'a, B> {
     ghost falls = { λ a p q. weakened_falls p q };
 }
 
-/// Whether a vertex tells where its jump goes.
-fn tells<B: Bank>(
+/// Whether an instruction has cases at a vertex with this predicate; where none stands there are none.
+#[tactic(auto, using(crate::proofs::TellLemmas::given))]
+fn gives_cases<B: Bank>(
     alloc: Global,
     bank: &mut B,
     view: &SiteView,
-    i: &Instr,
+    i: Option<&Instr>,
+    pred: &BankPred,
+) -> Result<bool, AllocError>
+    requires { IsNumbered (B.terms bank.old) pred.now }
+    ensures grows { Grows (B.terms bank.old) (B.terms bank.new) }
+    ensures value { IfOk result (λ r. r ≡ gives_cases (view_of view.now) (option_copied i.entry) (predicate_at (B.terms bank.old) pred.now)) }
+{
+    let Some(i) = i else {
+        return Ok(false);
+    };
+    let found = found_cases(alloc, bank, view, i, pred)?;
+    Ok(found.is_some())
+}
+
+/// The same of a vertex; one of which nothing is known passes.
+#[tactic(auto, using(crate::proofs::TellLemmas::told_nothing, crate::proofs::TellLemmas::told_some))]
+fn known_tells<B: Bank>(
+    alloc: Global,
+    bank: &mut B,
+    view: &SiteView,
+    i: Option<&Instr>,
+    known: &Option<BankPred>,
+) -> Result<bool, AllocError>
+    requires { IfSome known.now (IsNumbered (B.terms bank.old)) }
+    ensures grows { Grows (B.terms bank.old) (B.terms bank.new) }
+    ensures value { IfOk result (λ r. IsTrue r ↔ IfSome (option_map (predicate_at (B.terms bank.old)) known.now) (λ p. gives_cases (view_of view.now) (option_copied i.entry) p ≡ true)) }
+{
+    match known {
+        None => Ok(true),
+        Some(pred) => gives_cases(alloc, bank, view, i, pred),
+    }
+}
+
+/// Whether a vertex, if something is known of it, tells where its jump goes.
+#[tactic(auto, using(lift_rounds::proofs::ReadingLemmas::pred_at_read, crate::proofs::KnownLemmas::pred_past))]
+fn vertex_tells<B: Bank>(
+    alloc: Global,
+    bank: &mut B,
+    view: &SiteView,
+    i: Option<&Instr>,
     made: &[Made<BankPred>],
     vertex: usize,
-) -> Result<bool, NoMemory>
+) -> Result<bool, AllocError>
     requires { All (λ m. IsHeld (IsNumbered (B.terms bank.old)) m) made.now }
-    ensures { Grows (B.terms bank.old) (B.terms bank.new) }
+    ensures grows { Grows (B.terms bank.old) (B.terms bank.new) }
+    ensures value { IfOk result (λ r. IsTrue r ↔ IfSome (pred_at (reading (predicate_at (B.terms bank.old)) made.now) vertex) (λ p. gives_cases (view_of view.now) (option_copied i.entry) p ≡ true)) }
 {
     if made.len() <= vertex {
         return Ok(true);
     }
-    match &made[vertex].pred {
-        None => Ok(true),
-        Some(pred) => {
-            let found = cases(alloc, bank, view, i, pred)?;
-            Ok(found.is_some())
-        }
-    }
+    let known = &made[vertex].pred;
+    let told = known_tells(alloc, bank, view, i, known)?;
+    Ok(told)
 }
 
-/// Whether each vertex of a site tells where its jump goes.
-#[tactic(auto, using(crate::proofs::KnownLemmas::held_more, bank_values::proofs::GrowLemmas::grows_trans, bank_values::proofs::GrowLemmas::grows_refl))]
+/// Whether each vertex of a site of which something is known tells where its jump goes.
 fn all_tell<B: Bank>(
     alloc: Global,
     bank: &mut B,
     view: &SiteView,
-    i: &Instr,
+    i: Option<&Instr>,
     made: &[Made<BankPred>],
     site: &[usize],
-) -> Result<bool, NoMemory>
+) -> Result<bool, AllocError>
     requires { All (λ m. IsHeld (IsNumbered (B.terms bank.old)) m) made.now }
-    ensures { Grows (B.terms bank.old) (B.terms bank.new) }
+    ensures grows { Grows (B.terms bank.old) (B.terms bank.new) }
+    ensures value { IfOk result (λ r. IsTrue r ↔ AllPass (gives_cases (view_of view.now) (option_copied i.entry)) (map (pred_at (reading (predicate_at (B.terms bank.old)) made.now)) site.now)) }
 {
     for vertex in site {
-        if !tells(alloc, bank, view, i, made, *vertex)? {
+        let told = vertex_tells(alloc, bank, view, i, made, *vertex)?;
+        if !told {
             return Ok(false);
         }
     }
     Ok(true)
 }
 
+/// The same at an address.
+#[tactic(auto, using(crate::proofs::TellLemmas::told_at))]
+fn all_tell_at<B: Bank>(
+    alloc: Global,
+    bank: &mut B,
+    program: &Program,
+    address: u64,
+    made: &[Made<BankPred>],
+    site: &[usize],
+) -> Result<bool, AllocError>
+    requires { All (λ m. IsHeld (IsNumbered (B.terms bank.old)) m) made.now }
+    ensures grows { Grows (B.terms bank.old) (B.terms bank.new) }
+    ensures value { IfOk result (λ r. IsTrue r ↔ AllPass (tells (subject_of program.now) address) (map (pred_at (reading (predicate_at (B.terms bank.old)) made.now)) site.now)) }
+{
+    let view = program.bare_view();
+    let i = instr_at(program.image, address);
+    let told = all_tell(alloc, bank, &view, i.as_ref(), made, site)?;
+    Ok(told)
+}
+
 impl<'a, B: Bank> Jumps for Walk<'a, B> {
     ghost continues = { λ a b. GoesOn B.terms a b };
 
+    ghost opened = { λ w. w.opened.now.items };
+
     ghost shut = { λ w address. is_shut_at (subject_at w) address };
+
+    ghost tells = { λ w address p. tells (subject_at w) address p };
 
     fn is_shut(&self, address: u64) -> bool {
         self.program().is_shut_at(address)
@@ -324,12 +388,7 @@ impl<'a, B: Bank> Jumps for Walk<'a, B> {
         site: &[usize],
     ) -> Result<bool, AllocError> {
         let program = program_of(self.image, self.externs, self.opened.as_slice());
-        match instr_at(self.image, address) {
-            None => Ok(false),
-            Some(i) => {
-                all_tell(alloc, self.bank, &program.bare_view(), &i, made, site).map_err(refused)
-            }
-        }
+        all_tell_at(alloc, self.bank, &program, address, made, site)
     }
 
     fn open(&mut self, address: u64) -> Result<(), AllocError> {
@@ -350,4 +409,10 @@ impl<'a, B: Bank> Jumps for Walk<'a, B> {
     ghost reads_still = { λ a b p g h. walk_reads (B.terms a.bank.now) (B.terms b.bank.now) p g.more h };
 
     ghost forks_still = { λ a b address h. refl };
+
+    ghost as_open = { λ a b h. h.opened };
+
+    ghost alike = { λ a b h e. walk_alike B.terms a b h e };
+
+    ghost fixed = { λ a e address. fixed_at (subject_at a) e address };
 }

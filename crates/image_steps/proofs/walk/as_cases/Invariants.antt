@@ -1,4 +1,4 @@
-use Rattle.std.proofs.Common.{◌≡◌, ◌++◌, map}
+use Rattle.std.proofs.Common.{◌≡◌, map}
 use Rattle.image_steps.proofs.CaseLemmas.{as_case}
 use Rattle.image_steps.proofs.walk.as_cases.Given as goal
 
